@@ -1,0 +1,51 @@
+-- Document 01, "Turned-down calls": the number of each refusal, and what the Rust says or does in its place.
+-- Assumes nothing.
+use Prim.Native.Nat.{ℕ}
+use mathlib.Core.List.{List, [], _∷_}
+use Rattle.def.specs.declared.Refusal.{Refusal}
+use Rattle.def.specs.declared.Refusal.the-variants.{SizeTooBig, StoreFull, PictureLeased, NoLease, SlotTaken, NumberTooHigh, StateNotWhole, TooManyReferences, NoReferences, OldReference, ForwardListEmpty, BackwardListEmpty, SameNumber, NoSuchPlace, BadLayer, BadRecord, BadLength, BadLine}
+
+abbrev pub refusalNumber : Refusal → ℕ
+refusalNumber SizeTooBig = 1
+refusalNumber StoreFull = 2
+refusalNumber PictureLeased = 3
+refusalNumber NoLease = 4
+refusalNumber SlotTaken = 5
+refusalNumber NumberTooHigh = 6
+refusalNumber StateNotWhole = 7
+refusalNumber TooManyReferences = 8
+refusalNumber NoReferences = 9
+refusalNumber OldReference = 10
+refusalNumber ForwardListEmpty = 11
+refusalNumber BackwardListEmpty = 12
+refusalNumber SameNumber = 13
+refusalNumber NoSuchPlace = 14
+refusalNumber BadLayer = 15
+refusalNumber BadRecord = 16
+refusalNumber BadLength = 17
+refusalNumber BadLine = 18
+
+-- The Rust's word: an error that it returns, or what happens to it instead; `added` where it has no such test.
+pub data RustWord : Type 0 where
+  EVC-ERR EVC-ERR-UNKNOWN EVC-ERR-UNSUPPORTED : RustWord
+  asserts panics never-returns returns-filler added : RustWord
+
+abbrev pub rustWords : Refusal → List RustWord
+rustWords SizeTooBig = EVC-ERR-UNSUPPORTED ∷ []
+rustWords StoreFull = EVC-ERR-UNKNOWN ∷ []
+rustWords PictureLeased = added ∷ []
+rustWords NoLease = added ∷ []
+rustWords SlotTaken = asserts ∷ []
+rustWords NumberTooHigh = added ∷ []
+rustWords StateNotWhole = added ∷ []
+rustWords TooManyReferences = panics ∷ []
+rustWords NoReferences = asserts ∷ []
+rustWords OldReference = never-returns ∷ []
+rustWords ForwardListEmpty = asserts ∷ []
+rustWords BackwardListEmpty = asserts ∷ []
+rustWords SameNumber = EVC-ERR ∷ []
+rustWords NoSuchPlace = panics ∷ EVC-ERR ∷ []
+rustWords BadLayer = added ∷ never-returns ∷ []
+rustWords BadRecord = added ∷ []
+rustWords BadLength = panics ∷ returns-filler ∷ added ∷ []
+rustWords BadLine = added ∷ []

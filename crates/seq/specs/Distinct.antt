@@ -1,0 +1,172 @@
+-- Lists in which nothing stands twice: mapped, joined, selected; how long they can be; a number that must stand in one.
+-- Assumes nothing.
+use mathlib.Core.Path.{_≡_, refl, sym, ap, subst}
+use mathlib.Core.Bool.{Bool, true, false, cond, not}
+use mathlib.Core.List.{List, [], _∷_, _++_, map, List·Memᴰ, List·Memᴰ·head, List·Memᴰ·tail, List·Memᴰ·not-nil, List·Memᴰ·cases-cons, List·Memᴰ·append-cases, Memᴰ·append-left, Memᴰ·append-right, Memᴰ·cast, map-id}
+use mathlib.Core.Logic.{_⊎_, inl, inr, ⊎-elim}
+use Prim.Native.Nat.{ℕ, zero, suc, _≤_, _<_}
+use native.Mathlib.Nat.{not-suc-le-zero}
+use native.Mathlib.Decide.{ℕ-discrete}
+use native.Mathlib.Omega.{arith}
+use lib.Arith.{lt-of-le-ne}
+use lib.Dec.{eqb}
+use lib.ListN.{length, length-map}
+use borrow.Author.Tests.{eqb-true, eqb-false, not-true}
+use Rattle.seq.specs.Lists.{select, Distinct, Once}
+use Rattle.seq.specs.Members.{mem-map, mem-unmap, mem-select, find-mem}
+
+-- where members that g joins are joined by f too, f's images differing, g's do
+pub distinct-by : {A B C : Type 0} (f : A → B) (g : A → C) (xs : List A) → ((a b : A) → List·Memᴰ a xs → List·Memᴰ b xs → g a ≡ g b → f a ≡ f b)
+    → Distinct (map f xs) → Distinct (map g xs)
+unfolding Distinct
+distinct-by f g [] joined d = tt
+distinct-by f g (x ∷ xs) joined d = (
+  λ m. let u = mem-unmap g xs m in
+      d .0 (Memᴰ·cast (joined x (u .0) (List·Memᴰ·head refl) (List·Memᴰ·tail (u .1)) (u .2)) (mem-map f (u .1))),
+  distinct-by f g xs (λ a b m n e. joined a b (List·Memᴰ·tail m) (List·Memᴰ·tail n) e) (d .1),
+)
+
+module _ {A B : Type 0} (f : A → B) where
+  -- where f tells the members apart, their images differ
+  pub distinct-map : (xs : List A) → ((a b : A) → List·Memᴰ a xs → List·Memᴰ b xs → f a ≡ f b → a ≡ b) → Distinct xs → Distinct (map f xs)
+  distinct-map xs apart d = distinct-by (λ a. a) f xs apart (subst (λ (l : List A). Distinct l) (sym (map-id xs)) d)
+
+  -- where the images differ, so do the members
+  pub distinct-unmap : (xs : List A) → Distinct (map f xs) → Distinct xs
+  distinct-unmap xs d = subst (λ (l : List A). Distinct l) (map-id xs) (distinct-by f (λ a. a) xs (λ a b m n e. ap f e) d)
+
+module _ {A : Type 0} where
+  -- two lists joined: each is distinct, and no element stands in both
+  pub distinct-append : (xs ys : List A) → Distinct xs → Distinct ys → ((a : A) → List·Memᴰ a xs → List·Memᴰ a ys → ⊥) → Distinct (xs ++ ys)
+  unfolding Distinct
+  distinct-append [] ys dx dy apart = dy
+  distinct-append (x ∷ xs) ys dx dy apart = (
+    λ m. ⊎-elim (dx .0) (apart x (List·Memᴰ·head refl)) (List·Memᴰ·append-cases xs m),
+    distinct-append xs ys (dx .1) dy (λ a m. apart a (List·Memᴰ·tail m)),
+  )
+
+  pub distinct-left : (xs ys : List A) → Distinct (xs ++ ys) → Distinct xs
+  unfolding Distinct
+  distinct-left [] ys d = tt
+  distinct-left (x ∷ xs) ys d = (λ m. d .0 (Memᴰ·append-left ys m), distinct-left xs ys (d .1))
+
+  pub distinct-right : (xs ys : List A) → Distinct (xs ++ ys) → Distinct ys
+  unfolding Distinct
+  distinct-right [] ys d = d
+  distinct-right (x ∷ xs) ys d = distinct-right xs ys (d .1)
+
+  -- no element stands in both parts
+  pub distinct-apart : (xs ys : List A) → Distinct (xs ++ ys) → (a : A) → List·Memᴰ a xs → List·Memᴰ a ys → ⊥
+  unfolding Distinct
+  distinct-apart [] ys d a m n = List·Memᴰ·not-nil m
+  distinct-apart (x ∷ xs) ys d a m n =
+      ⊎-elim (λ e. d .0 (Memᴰ·append-right xs (Memᴰ·cast (sym e) n))) (λ k. distinct-apart xs ys (d .1) a k n) (List·Memᴰ·cases-cons m)
+
+  -- a member of a distinct list stands there exactly once
+  pub once : {a : A} (xs : List A) → Distinct xs → List·Memᴰ a xs → Once a xs
+  unfolding Distinct
+  once [] d m = absurd (List·Memᴰ·not-nil m)
+  once {a} (x ∷ xs) d m = pick (once xs (d .1)) (List·Memᴰ·cases-cons m)
+    where
+      pick : (List·Memᴰ a xs → Once a xs) → a ≡ x ⊎ List·Memᴰ a xs → Once a (x ∷ xs)
+      pick below (inl e) =
+          record {
+            front = [];
+            back = xs;
+            split = ap {B = List A} (λ y. y ∷ xs) (sym e);
+            not-in-front = λ k. List·Memᴰ·not-nil k;
+            not-in-back = λ k. d .0 (Memᴰ·cast (sym e) k);
+          }
+      pick below (inr n) =
+          let o = below n in
+          record {
+            front = x ∷ o .front;
+            back = o .back;
+            split = ap {B = List A} (λ l. x ∷ l) (o .split);
+            not-in-front = λ k. ⊎-elim (λ e. d .0 (Memᴰ·cast (sym e) n)) (o .not-in-front) (List·Memᴰ·cases-cons k);
+            not-in-back = o .not-in-back;
+          }
+
+  module _ (p : A → Bool) where
+    pub distinct-select : (xs : List A) → Distinct xs → Distinct (select p xs)
+    unfolding Distinct select
+    distinct-select [] d = tt
+    distinct-select (x ∷ xs) d = pick (p x) (distinct-select xs (d .1))
+      where
+        pick : (b : Bool) → Distinct (select p xs) → Distinct (cond b (x ∷ select p xs) (select p xs))
+        pick true e = (λ m. d .0 (mem-select p xs m .0), e)
+        pick false e = e
+
+-- ---- how long a distinct list of numbers can be
+
+-- the list without the number n: one shorter at most
+abbrev others : ℕ → List ℕ → List ℕ
+others n xs = select (λ x. not (eqb x n)) xs
+
+others-all : (n : ℕ) (xs : List ℕ) → (List·Memᴰ n xs → ⊥) → length (others n xs) ≡ length xs
+unfolding select
+others-all n [] f = refl
+others-all n (x ∷ xs) f = pick (eqb x n) refl (others-all n xs (λ m. f (List·Memᴰ·tail m)))
+  where
+    pick : (b : Bool) → eqb x n ≡ b → length (others n xs) ≡ length xs → length (cond (not b) (x ∷ others n xs) (others n xs)) ≡ suc (length xs)
+    pick true e ih = absurd (f (List·Memᴰ·head (sym (eqb-true x n e))))
+    pick false e ih = ap suc ih
+
+others-length : (n : ℕ) (xs : List ℕ) → Distinct xs → length xs ≤ suc (length (others n xs))
+unfolding Distinct select
+others-length n [] d = omega arith
+others-length n (x ∷ xs) d = pick (eqb x n) refl (others-length n xs (d .1))
+  where
+    pick : (b : Bool) → eqb x n ≡ b → length xs ≤ suc (length (others n xs)) → suc (length xs) ≤ suc (length (cond (not b) (x ∷ others n xs) (others n xs)))
+    pick true e ih = omega (arith, others-all n xs (λ m. d .0 (Memᴰ·cast (eqb-true x n e) m)))
+    pick false e ih = omega arith
+
+-- numbers below n, none twice: at most n of them
+pub pigeonhole : (n : ℕ) (xs : List ℕ) → Distinct xs → ((x : ℕ) → List·Memᴰ x xs → x < n) → length xs ≤ n
+pigeonhole zero xs d below = none xs below
+  where
+    none : (xs : List ℕ) → ((x : ℕ) → List·Memᴰ x xs → x < zero) → length xs ≤ zero
+    none [] f = omega arith
+    none (x ∷ xs) f = absurd (not-suc-le-zero (f x (List·Memᴰ·head refl)))
+pigeonhole (suc n) xs d below =
+    let ih = pigeonhole n (others n xs) (distinct-select _ xs d) left in
+    omega (arith, others-length n xs d)
+  where
+    left : (y : ℕ) → List·Memᴰ y (others n xs) → y < n
+    left y m =
+        let s = mem-select (λ z. not (eqb z n)) xs m in
+        let l = below y (s .0) in
+        lt-of-le-ne (omega arith) (eqb-false y n (not-true (eqb y n) (s .1)))
+
+-- the same of any list whose members f sends to different numbers below n
+pub pigeonhole-by : {A : Type 0} (f : A → ℕ) (n : ℕ) (xs : List A) → Distinct (map f xs) → ((x : A) → List·Memᴰ x xs → f x < n) → length xs ≤ n
+pigeonhole-by f n xs d below =
+    subst (λ (k : ℕ). k ≤ n) (length-map xs f)
+    (pigeonhole n (map f xs) d (λ y m. let u = mem-unmap f xs m in subst (λ (k : ℕ). k < n) (sym (u .2)) (below (u .0) (u .1))))
+
+-- n numbers below n, none twice: each of them is met
+pub all-met : (n : ℕ) (xs : List ℕ) → Distinct xs → ((x : ℕ) → List·Memᴰ x xs → x < n) → length xs ≡ n → (k : ℕ) → k < n → List·Memᴰ k xs
+unfolding Distinct
+all-met n xs d below full k l = ⊎-elim (λ m. m) (λ f. absurd (longer f)) (find-mem ℕ-discrete k xs)
+  where
+    longer : (List·Memᴰ k xs → ⊥) → ⊥
+    longer f =
+        let h : suc (length xs) ≤ n = pigeonhole n (k ∷ xs) (f, d) (λ y m. ⊎-elim (λ e. subst (λ (z : ℕ). z < n) (sym e) l) (below y) (List·Memᴰ·cases-cons m)) in
+        omega arith
+
+-- ---- numbers that climb
+
+-- each number is above the one before it, and the first is above d
+unfoldable pub Climbing : ℕ → List ℕ → Type 0
+Climbing d [] = Unit {0}
+Climbing d (x ∷ xs) = (d < x) × Climbing x xs
+
+pub climbing-above : (d : ℕ) (xs : List ℕ) → Climbing d xs → (x : ℕ) → List·Memᴰ x xs → d < x
+unfolding Climbing
+climbing-above d [] c x m = absurd (List·Memᴰ·not-nil m)
+climbing-above d (y ∷ ys) c x m = ⊎-elim (λ e. subst (λ (z : ℕ). d < z) (sym e) (c .0)) (λ n. let h = climbing-above y ys (c .1) x n in omega arith) (List·Memᴰ·cases-cons m)
+
+pub climbing-distinct : (d : ℕ) (xs : List ℕ) → Climbing d xs → Distinct xs
+unfolding Climbing Distinct
+climbing-distinct d [] c = tt
+climbing-distinct d (x ∷ xs) c = (λ m. let h = climbing-above x xs (c .1) x m in omega arith, climbing-distinct x xs (c .1))

@@ -1,0 +1,121 @@
+-- The lowest and the highest place whose element passes a test: where a search from one end finds them, and what holds there.
+-- Assumes nothing.
+use mathlib.Core.Path.{_≡_, refl, sym, ap, _∙_}
+use mathlib.Core.Bool.{Bool, true, false, cond, _||_}
+use mathlib.Core.Bool as Bool
+use mathlib.Core.List.{List, [], _∷_}
+use Prim.Native.Nat.{ℕ, zero, suc, _+_, _-_, _<_, _≤_}
+use native.Mathlib.Nat.{le-of-suc-le-suc, not-suc-le-zero}
+use native.Mathlib.Omega.{arith}
+use lib.ListN.{length, drop, getD, drop-of-length-le}
+use lib.Seq.{drop-cons}
+use Rattle.seq.specs.Lists.{any, lowest, highest}
+use Rattle.seq.specs.Walks.{drop-step}
+
+module _ {A : Type 0} (d : A) (p : A → Bool) where
+  -- ---- a search upwards: the lowest place, counted from the place i that it has come to
+
+  pub lowest-hit : (xs : List A) (i : ℕ) → i < length xs → p (getD xs i d) ≡ true → i + lowest p (drop i xs) ≡ i
+  unfolding lowest
+  lowest-hit xs i h e = rw (drop-step d xs i h, e) (omega arith)
+
+  pub lowest-miss : (xs : List A) (i : ℕ) → i < length xs → p (getD xs i d) ≡ false → i + 1 + lowest p (drop (i + 1) xs) ≡ i + lowest p (drop i xs)
+  unfolding lowest
+  lowest-miss xs i h e = rw (drop-step d xs i h, e) (omega arith)
+
+  pub lowest-end : (xs : List A) (i : ℕ) → length xs ≤ i → i + lowest p (drop i xs) ≡ i
+  unfolding lowest
+  lowest-end xs i h = rw (drop-of-length-le xs h) (omega arith)
+
+  -- ---- what holds at the lowest place and below it
+
+  pub lowest-le : (xs : List A) → lowest p xs ≤ length xs
+  unfolding lowest
+  lowest-le [] = omega arith
+  lowest-le (x ∷ xs) = pick (p x) (lowest-le xs)
+    where
+      pick : (b : Bool) → lowest p xs ≤ length xs → cond b 0 (suc (lowest p xs)) ≤ suc (length xs)
+      pick true h = omega arith
+      pick false h = omega arith
+
+  pub lowest-passes : (xs : List A) → lowest p xs < length xs → p (getD xs (lowest p xs) d) ≡ true
+  unfolding lowest
+  lowest-passes [] h = absurd (not-suc-le-zero h)
+  lowest-passes (x ∷ xs) h = pick (p x) refl (lowest-passes xs) h
+    where
+      pick : (b : Bool) → p x ≡ b → (lowest p xs < length xs → p (getD xs (lowest p xs) d) ≡ true)
+          → cond b 0 (suc (lowest p xs)) < suc (length xs) → p (getD (x ∷ xs) (cond b 0 (suc (lowest p xs))) d) ≡ true
+      pick true e below h = e
+      pick false e below h = below (le-of-suc-le-suc h)
+
+  pub below-lowest : (xs : List A) (k : ℕ) → k < lowest p xs → p (getD xs k d) ≡ false
+  unfolding lowest
+  below-lowest [] k h = absurd (not-suc-le-zero h)
+  below-lowest (x ∷ xs) zero h = pick (p x) refl h
+    where
+      pick : (b : Bool) → p x ≡ b → zero < cond b 0 (suc (lowest p xs)) → p x ≡ false
+      pick true e h = absurd (not-suc-le-zero h)
+      pick false e h = e
+  below-lowest (x ∷ xs) (suc k) h = pick (p x) (below-lowest xs k) h
+    where
+      pick : (b : Bool) → (k < lowest p xs → p (getD xs k d) ≡ false) → suc k < cond b 0 (suc (lowest p xs)) → p (getD xs k d) ≡ false
+      pick true below h = absurd (not-suc-le-zero h)
+      pick false below h = below (le-of-suc-le-suc h)
+
+  -- none passes where the search reaches the end
+  pub lowest-none : (xs : List A) → length xs ≤ lowest p xs → any p xs ≡ false
+  unfolding lowest any
+  lowest-none [] h = refl
+  lowest-none (x ∷ xs) h = pick (p x) (lowest-none xs) h
+    where
+      pick : (b : Bool) → (length xs ≤ lowest p xs → any p xs ≡ false) → suc (length xs) ≤ cond b 0 (suc (lowest p xs)) → (b || any p xs) ≡ false
+      pick true below h = absurd (not-suc-le-zero h)
+      pick false below h = below (le-of-suc-le-suc h)
+
+  -- ---- a search downwards
+
+  pub highest-hit : (xs : List A) (i : ℕ) → i < length xs → p (getD xs i d) ≡ true → any p (drop (suc i) xs) ≡ false → highest p xs ≡ i
+  unfolding highest any
+  highest-hit [] i h e f = absurd (not-suc-le-zero h)
+  highest-hit (x ∷ xs) zero h e f = rw f
+  highest-hit (x ∷ xs) (suc i) h e f = rw (found xs i (le-of-suc-le-suc h) e) (ap suc (highest-hit xs i (le-of-suc-le-suc h) e f))
+    where
+      found : (xs : List A) (i : ℕ) → i < length xs → p (getD xs i d) ≡ true → any p xs ≡ true
+      found [] i h e = absurd (not-suc-le-zero h)
+      found (x ∷ xs) zero h e = rw e
+      found (x ∷ xs) (suc i) h e = rw (found xs i (le-of-suc-le-suc h) e) (Bool.or-true (p x))
+
+  -- none passes from place i on: the element below it passes or does not
+  pub highest-found : (xs : List A) (i : ℕ) → 0 < i → i ≤ length xs → any p (drop i xs) ≡ false → p (getD xs (i - 1) d) ≡ true → i - 1 ≡ highest p xs
+  highest-found xs zero h l f e = absurd (not-suc-le-zero h)
+  highest-found xs (suc k) h l f e = let q : suc k - 1 ≡ k = omega arith in rw q (sym (highest-hit xs k l (rw q at e) f))
+
+  pub none-from : (xs : List A) (i : ℕ) → 0 < i → i ≤ length xs → any p (drop i xs) ≡ false → p (getD xs (i - 1) d) ≡ false → any p (drop (i - 1) xs) ≡ false
+  unfolding any
+  none-from xs zero h l f e = absurd (not-suc-le-zero h)
+  none-from xs (suc k) h l f e = let q : suc k - 1 ≡ k = omega arith in rw q (below (rw q at e))
+    where
+      below : p (getD xs k d) ≡ false → any p (drop k xs) ≡ false
+      below t = rw (drop-cons xs k d l, t) f
+
+  pub highest-none : (xs : List A) → any p xs ≡ false → highest p xs ≡ 0
+  unfolding highest any
+  highest-none [] e = refl
+  highest-none (x ∷ xs) e = pick (p x) e
+    where
+      pick : (b : Bool) → (b || any p xs) ≡ false → cond (any p xs) (suc (highest p xs)) 0 ≡ 0
+      pick true e = absurd (Bool.true≢false e)
+      pick false e = rw e
+
+  pub highest-passes : (xs : List A) → any p xs ≡ true → (highest p xs < length xs) × (p (getD xs (highest p xs) d) ≡ true)
+  unfolding highest any
+  highest-passes [] e = absurd (Bool.false≢true e)
+  highest-passes (x ∷ xs) e = pick (any p xs) refl (highest-passes xs)
+    where
+      Goal : ℕ → Type 0
+      Goal k = (k < suc (length xs)) × (p (getD (x ∷ xs) k d) ≡ true)
+
+      pick : (b : Bool) → any p xs ≡ b → (any p xs ≡ true → (highest p xs < length xs) × (p (getD xs (highest p xs) d) ≡ true))
+          → Goal (cond b (suc (highest p xs)) 0)
+      pick true t below = (let h = below t .0 in omega arith, below t .1)
+      pick false t below = (omega arith, sym (Bool.or-false (p x)) ∙ ap (λ (b : Bool). p x || b) (sym t) ∙ e)

@@ -1,0 +1,1 @@
+// Definitions and laws on lists, in specs/; no code.
