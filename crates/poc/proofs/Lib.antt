@@ -1,0 +1,3 @@
+mod Words
+mod Float
+mod Formula
