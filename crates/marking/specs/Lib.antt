@@ -1,0 +1,4 @@
+pub mod Marking
+pub mod Steps
+pub mod Kept
+pub mod Limits

@@ -1,0 +1,58 @@
+-- Document 01, "Get" (`evc_picman_get_empty_pic`): the lowest idle slot is taken out, else a new picture is made.
+-- Assumes nothing.
+use Prim.Native.Nat.{ℕ, _-_}
+use mathlib.Core.Bool.{cond, not}
+use mathlib.Core.List.{map}
+use lib.Dec.{leb, ltb}
+use lib.ListN.{getD}
+use Rattle.seq.specs.Lists.{count, select, lowest, removeAt, smallestNotIn}
+use Rattle.def.specs.declared.Slot.{Slot}
+use Rattle.def.specs.declared.EvcPm.{EvcPm}
+use Rattle.def.specs.declared.PmResult.{PmResult}
+use Rattle.def.specs.declared.Answer.{Answer}
+use Rattle.def.specs.declared.Answer.the-variants.{Picture, Refused}
+use Rattle.def.specs.declared.Refusal.{Refusal}
+use Rattle.def.specs.declared.Refusal.the-variants.{StoreFull, PictureLeased, StateNotWhole}
+use Rattle.def.specs.State.{slots, newPic, emptySlot, noSlot, held, isIdle, withStore}
+use Rattle.whole.specs.Whole.{whole, isPresent, bufferOf}
+
+-- A call turned down leaves the state as it was.
+abbrev pub refused : Refusal → EvcPm → PmResult
+refused why pm = record { answer = Refused why; pm = pm }
+
+-- The picture in a slot, as an answer shows it.
+abbrev pub shown : Slot → Answer
+shown s = Picture (s .buf) (s .pic .poc)
+
+-- The picture at place i is taken out of the store and leased, as it is; the slots above slide down and slot 26 empties.
+abbrev pub reuse : EvcPm → ℕ → PmResult
+reuse pm i =
+    record {
+      answer = shown (getD (pm .pic) i noSlot);
+      pm = withStore pm (removeAt emptySlot i (pm .pic)) (getD (pm .pic) i noSlot) (pm .«cur_pb_size» - 1) (pm .«cur_num_ref_pics»);
+    }
+
+-- A new picture is all zero and gets the smallest buffer number that no slot holds.
+abbrev pub freeBuffer : EvcPm → ℕ
+freeBuffer pm = smallestNotIn (map bufferOf (select isPresent (pm .pic)))
+
+abbrev pub fresh : EvcPm → PmResult
+fresh pm =
+    record {
+      answer = Picture (freeBuffer pm) 0;
+      pm = withStore pm (pm .pic) (held newPic (freeBuffer pm)) (pm .«cur_pb_size») (pm .«cur_num_ref_pics»);
+    }
+
+-- Where no picture is idle: 2.
+abbrev pub getNew : EvcPm → PmResult
+getNew pm = cond (leb (pm .«max_pb_size») (count isPresent (pm .pic))) (refused StoreFull pm) (fresh pm)
+
+-- On a whole state: 3, 2.
+unfoldable pub getWhole : EvcPm → PmResult
+getWhole pm =
+    cond (pm .«pic_lease» .present) (refused PictureLeased pm)
+    (cond (ltb (lowest isIdle (pm .pic)) slots) (reuse pm (lowest isIdle (pm .pic))) (getNew pm))
+
+-- 7, 3, 2.
+unfoldable pub get : EvcPm → PmResult
+get pm = cond (not (whole pm)) (refused StateNotWhole pm) (getWhole pm)

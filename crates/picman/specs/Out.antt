@@ -1,0 +1,42 @@
+-- Document 01, "Out" (`evc_picman_out_pic`): the lowest slot wanted for output whose number is due is handed over.
+-- Assumes nothing.
+use Prim.Native.Nat.{ℕ, _+_}
+use mathlib.Core.Bool.{Bool, cond, not, _&&_}
+use lib.Dec.{leb, ltb}
+use lib.ListN.{getD, set}
+use Rattle.seq.specs.Lists.{any, lowest}
+use Rattle.def.specs.declared.Slot.{Slot}
+use Rattle.def.specs.declared.EvcPm.{EvcPm}
+use Rattle.def.specs.declared.PmResult.{PmResult}
+use Rattle.def.specs.declared.Answer.the-variants.{NotYet, NoMore}
+use Rattle.def.specs.declared.Refusal.the-variants.{StateNotWhole}
+use Rattle.def.specs.State.{slots, noSlot, isWanted, handedOver, withOutput}
+use Rattle.whole.specs.Whole.{whole}
+use Rattle.picman.specs.Get.{refused, shown}
+
+-- Wanted for output, with a number at most the next output number.
+abbrev pub isDue : ℕ → Slot → Bool
+isDue next s = isWanted s && leb (s .pic .poc) next
+
+-- The flag of the picture at place i clears, and the next output number is its number plus the step.
+abbrev pub handOver : EvcPm → ℕ → PmResult
+handOver pm i =
+    record {
+      answer = shown (getD (pm .pic) i noSlot);
+      pm =
+          withOutput pm (set (pm .pic) i (handedOver (getD (pm .pic) i noSlot))) (getD (pm .pic) i noSlot .pic .poc + pm .«poc_increase»);
+    }
+
+-- Some are wanted and none is due: not yet. None is wanted: no more.
+abbrev pub noneDue : EvcPm → PmResult
+noneDue pm = record { answer = cond (any isWanted (pm .pic)) NotYet NoMore; pm = pm }
+
+unfoldable pub outWhole : EvcPm → PmResult
+outWhole pm =
+    cond (ltb (lowest (isDue (pm .«poc_next_output»)) (pm .pic)) slots)
+    (handOver pm (lowest (isDue (pm .«poc_next_output»)) (pm .pic)))
+    (noneDue pm)
+
+-- 7.
+unfoldable pub out : EvcPm → PmResult
+out pm = cond (not (whole pm)) (refused StateNotWhole pm) (outWhole pm)

@@ -1,0 +1,3 @@
+// Moves and searches on the slots.
+pub mod moves;
+pub mod search;

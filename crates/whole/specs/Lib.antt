@@ -1,0 +1,5 @@
+pub mod Whole
+pub mod Laws
+pub mod Walk
+pub mod Seen
+pub mod Holding
