@@ -1,0 +1,99 @@
+-- Document 01, "Frames to check by hand": the twelve that are marked with a star, as one list of what the definitions give beside what the
+-- document says, and one proof that computes over the whole list.
+-- Assumes nothing.
+use Prim.Native.Nat.{ℕ}
+use mathlib.Core.Path.{_≡_, refl}
+use mathlib.Core.Bool.{Bool, true, false}
+use mathlib.Core.List.{List, [], _∷_, _++_, map}
+use lib.IntN.{ℤ, pos, negsuc}
+use lib.Ieee.{size, span, climb}
+use lib.ListN.{replicate}
+use Rattle.seq.specs.Lists.{count, selectAt, moveTo}
+use Rattle.def.specs.Binary.{floorLog2}
+use Rattle.def.specs.declared.Slot.{Slot}
+use Rattle.def.specs.declared.EvcPoc.{EvcPoc}
+use Rattle.def.specs.declared.RefpCall.{RefpCall}
+use Rattle.def.specs.declared.Refusal.the-variants.{BadLayer, NumberTooHigh}
+use Rattle.def.specs.declared.SliceType.the-variants.{«EVC_ST_B»}
+use Rattle.def.specs.State.{listPlaces, emptySlot, held}
+use Rattle.poc.specs.declared.PocAnswer.{PocAnswer}
+use Rattle.poc.specs.declared.PocAnswer.the-variants.{Derived, Refused}
+use Rattle.poc.specs.PictureNumber.{derive, recordOf, offsetFrom, seek, inLayer}
+use Rattle.marking.specs.Marking.{marked, sweep, slide, excess, unmarkFirst, noteFirst, lastWalk}
+use Rattle.refp.specs.Lists.{Key, Passed, took, met-old, forward, backward, down, up, keysFrom, ordered, insertKey, pass, passOn}
+
+-- What a frame shows: a derivation's answer with the previous number after it, the slots after marking, or the numbers of two lists.
+pub data Shown : Type 0 where
+  number : PocAnswer → ℕ → Shown
+  store : List Slot → Shown
+  both : List ℕ → List ℕ → Shown
+
+pub record Frame : Type 0 where
+  pub given : Shown
+  pub said : Shown
+
+abbrev pub frame : Shown → Shown → Frame
+frame given said = record { given = given; said = said }
+
+-- The record with this previous number and offset; what number it holds is not read.
+abbrev pub before : ℕ → ℕ → EvcPoc
+before prev d = recordOf (pos 0) prev d
+
+abbrev pub derived : ℕ → ℕ → EvcPoc → Shown
+derived L t r = number (derive L t r .answer) (derive L t r .poc .«prev_poc_val»)
+
+abbrev pub is : ℤ → PocAnswer
+is z = Derived (record { 0 = z })
+
+-- The record after derivations of these layers.
+unfoldable pub after : ℕ → List ℕ → EvcPoc → EvcPoc
+unfolding derive
+after L [] r = r
+after L (t ∷ ts) r = after L ts (derive L t r .poc)
+
+-- A picture of this number and layer, in the buffer of its number; marked, or not any more.
+abbrev pub picture : Bool → ℕ → ℕ → Slot
+picture isRef poc layer =
+    held (record { poc = poc; «is_ref» = isRef; «need_for_out» = false; «temporal_id» = layer; «list_poc» = replicate listPlaces 0 }) poc
+
+abbrev pub ref : ℕ → Slot
+ref poc = picture true poc 0
+
+-- n empty slots.
+abbrev pub empty : ℕ → List Slot
+empty n = replicate n emptySlot
+
+-- B at 2, layer 2, limit 2, last intra 0; marked are 0 and 8 of layer 0, and 4 of layer 1.
+abbrev pub request : RefpCall
+request = record { «slice_type» = «EVC_ST_B»; poc = 2; «layer_id» = 2; «last_intra» = pos 0; «max_num_ref_pics» = 2 }
+
+abbrev pub asked : List Slot
+asked = ref 0 ∷ ref 8 ∷ picture true 4 1 ∷ empty 24
+
+unfoldable pub numbersOf : Passed → List ℕ
+numbersOf (took ks) = map (λ (k : Key). k .poc) ks
+numbersOf met-old = []
+
+-- In the document's order.
+unfoldable pub frames : List Frame
+unfolding numbersOf after
+frames =
+    frame (derived 3 1 (before 8 0)) (number (is (pos 4)) 8)
+    ∷ frame (derived 3 2 (after 3 (1 ∷ []) (before 8 0))) (number (is (pos 2)) 8)
+    ∷ frame (derived 3 2 (after 3 (1 ∷ 2 ∷ []) (before 8 0))) (number (is (pos 6)) 8)
+    ∷ frame (derived 3 3 (after 3 (1 ∷ 2 ∷ 2 ∷ []) (before 8 0))) (number (is (pos 1)) 8)
+    ∷ frame (derived 3 1 (before 8 7)) (number (is (pos 12)) 16)
+    ∷ frame (derived 2 1 (before 0 0)) (number (is (negsuc 1)) 0)
+    ∷ frame (derived 15 15 (before 32768 32766)) (number (is (pos 32767)) 32768)
+    ∷ frame (derived 0 1 (before 0 0)) (number (Refused BadLayer) 0)
+    ∷ frame (derived 0 0 (before 2147483646 0)) (number (is (pos 2147483647)) 2147483647)
+    ∷ frame (derived 0 0 (after 0 (0 ∷ []) (before 2147483646 0))) (number (Refused NumberTooHigh) 2147483647)
+    ∷ frame (store (marked 0 (ref 0 ∷ ref 1 ∷ ref 2 ∷ ref 3 ∷ ref 4 ∷ empty 22)))
+    (store (ref 1 ∷ ref 2 ∷ ref 3 ∷ ref 4 ∷ (empty 22 ++ (picture false 0 0 ∷ []))))
+    ∷ frame (store (marked 4 (ref 3 ∷ ref 4 ∷ ref 5 ∷ empty 24))) (store (ref 3 ∷ ref 4 ∷ (empty 24 ++ (picture false 5 0 ∷ []))))
+    ∷ frame (both (numbersOf (forward «EVC_ST_B» request asked)) (numbersOf (backward «EVC_ST_B» request asked))) (both (0 ∷ 4 ∷ []) (4 ∷ 8 ∷ []))
+    ∷ []
+
+pub frames-hold : map (λ (f : Frame). f .given) frames ≡ map (λ (f : Frame). f .said) frames
+unfolding frames numbersOf after derive offsetFrom seek inLayer floorLog2 size span climb marked sweep selectAt slide excess count unmarkFirst noteFirst lastWalk moveTo forward backward down up keysFrom ordered insertKey pass passOn
+frames-hold = refl

@@ -1,0 +1,1 @@
+// The starred frames of document 01, in specs/; no code.

@@ -1,0 +1,5 @@
+pub mod Insertion
+pub mod Walk
+pub mod OneList
+pub mod Deciding
+pub mod Filling

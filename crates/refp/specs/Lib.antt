@@ -1,0 +1,17 @@
+pub mod Lists
+pub mod Copy
+pub mod Order
+pub mod Packed
+pub mod Passes
+pub mod PassLaws
+pub mod Walked
+pub mod Sides
+pub mod Choice
+pub mod SameRule
+pub mod Taken
+pub mod Accepted
+pub mod Written
+pub mod Settled
+pub mod ListTheorems
+pub mod Reasons
+pub mod CopyTheorems
