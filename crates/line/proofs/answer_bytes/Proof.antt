@@ -1,0 +1,57 @@
+-- `line::answer_bytes` meets its contract: a last byte of zero adds nothing to the sum, and the one that takes its place brings it to zero.
+-- Assumes nothing.
+use Prim.Native.Nat.{ℕ}
+use native.Mathlib.Omega.{arith}
+use mathlib.Core.Path.{_≡_, ap, _∙_}
+use mathlib.Core.List.{[], _∷_, _++_}
+use Rattle.line.specs.Hex.{sum8, checkByte}
+use Rattle.line.specs.HexLaws.{sum8-fits, sum8-zero}
+use Rattle.line.specs.Answers.{replyBytes}
+use borrow.Author.Needs.{needs}
+use Rattle.line.proofs.answer_bytes.Statement.{statement}
+use Rattle.line.proofs.answer_bytes.Tie as tie
+
+cast-bytes : tie.Need-cast-bytes
+cast-bytes c = search needs
+
+cast-t10 : tie.Need-cast-t10
+cast-t10 c = search needs
+
+cast-t13 : tie.Need-cast-t13
+cast-t13 c = search needs
+
+cast-t15 : tie.Need-cast-t15
+cast-t15 c = search needs
+
+slice-aggregate-sum8 : tie.Need-slice-aggregate-sum8
+slice-aggregate-sum8 c = search needs
+
+sum8-requires : tie.Need-sum8-requires
+sum8-requires c κs = search needs
+
+wrapping-sub-u8-requires : tie.Need-wrapping-sub-u8-requires
+wrapping-sub-u8-requires c κs = search needs
+
+array-write-bytes : tie.Need-array-write-bytes
+array-write-bytes c = search needs
+
+returns : tie.Need-returns
+returns c =
+    let bytes = replyBytes (c .before .before .before .args .reply) in
+    let sum : c .before .sum8 .result ≡ sum8 bytes = c .before .sum8 .ensures ∙ sum8-zero bytes in
+    let check : c .wrapping-sub-u8 .result ≡ checkByte bytes = omega (arith, c .wrapping-sub-u8 .ensures, sum8-fits bytes) in
+    ap (λ (b : ℕ). bytes ++ (b ∷ [])) check
+
+pub answer-bytes-spec : {M : Type 1} → statement M
+answer-bytes-spec =
+    tie.close
+    (tie.spec
+    cast-bytes
+    cast-t10
+    cast-t13
+    cast-t15
+    slice-aggregate-sum8
+    sum8-requires
+    wrapping-sub-u8-requires
+    array-write-bytes
+    returns)

@@ -1,0 +1,7 @@
+pub mod Hex
+pub mod HexLaws
+pub mod Calls
+pub mod CallLaws
+pub mod Answers
+pub mod ReadBack
+pub mod CallBytes

@@ -1,0 +1,18 @@
+-- `machine::step::put_step` meets its contract. Assumes nothing.
+use mathlib.Core.Path.{ap, _∙_}
+use Rattle.machine.specs.Step.{onState}
+use borrow.Author.Needs.{needs}
+use Rattle.machine.proofs.step.put_step.Statement.{statement}
+use Rattle.machine.proofs.step.put_step.Tie as tie
+
+evc-picman-put-pic-requires : tie.Need-evc-picman-put-pic-requires
+evc-picman-put-pic-requires c κs = search needs
+
+on-state-requires : tie.Need-on-state-requires
+on-state-requires c κs = search needs
+
+returns : tie.Need-returns
+returns c = c .on-state .ensures ∙ ap (onState 3 (c .before .before .before .before .args .m)) (c .before .evc-picman-put-pic .ensures)
+
+pub put-step-spec : {M : Type 1} → statement M
+put-step-spec = tie.close (tie.spec evc-picman-put-pic-requires on-state-requires returns)
