@@ -1,0 +1,69 @@
+-- `image::write::write_word` meets its contract: four bytes, one store each.
+-- Assumes nothing.
+use mathlib.Core.Path.{refl}
+use Prim.Native.Nat.{_/_, _%_}
+use native.Mathlib.Omega.{arith}
+use lib.ListN.{length-set}
+use borrow.Author.Needs.{needs}
+use Rattle.seq.specs.Stores.{stored-one, stored-then}
+use Rattle.image.proofs.write.write_word.Statement.{statement}
+use Rattle.image.proofs.write.write_word.Tie as tie
+
+cast-image : tie.Need-cast-image
+cast-image c = search needs
+
+slice-write-image : tie.Need-slice-write-image
+slice-write-image c = search needs
+
+cast-image-2 : tie.Need-cast-image-2
+cast-image-2 c = search needs
+
+add-image : tie.Need-add-image
+add-image c = search needs
+
+slice-write-image-2 : tie.Need-slice-write-image-2
+slice-write-image-2 c = simp length-set (omega arith)
+
+cast-image-3 : tie.Need-cast-image-3
+cast-image-3 c = search needs
+
+add-image-2 : tie.Need-add-image-2
+add-image-2 c = search needs
+
+slice-write-image-3 : tie.Need-slice-write-image-3
+slice-write-image-3 c = simp length-set (omega arith)
+
+cast-image-4 : tie.Need-cast-image-4
+cast-image-4 c = search needs
+
+add-image-3 : tie.Need-add-image-3
+add-image-3 c = search needs
+
+slice-write-image-4 : tie.Need-slice-write-image-4
+slice-write-image-4 c = simp length-set (omega arith)
+
+same-length : tie.Need-same-length
+same-length c = search needs
+
+returns : tie.Need-returns
+returns c =
+    let n = c .args .n in
+    stored-then (stored-then (stored-then (stored-one (n / 16777216 % 256) refl) (stored-one (n / 65536 % 256) refl)) (stored-one (n / 256 % 256) refl)) (stored-one (n % 256) refl)
+
+pub write-word-spec : {M : Type 1} → statement M
+write-word-spec =
+    tie.close
+    (tie.spec
+    cast-image
+    slice-write-image
+    cast-image-2
+    add-image
+    slice-write-image-2
+    cast-image-3
+    add-image-2
+    slice-write-image-3
+    cast-image-4
+    add-image-3
+    slice-write-image-4
+    same-length
+    returns)

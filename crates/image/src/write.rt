@@ -1,0 +1,154 @@
+// The bytes of an image, written part by part into a lent one; the bytes before and behind stay.
+// `Stored bs at ys n after` says: after is bs with ys, n bytes, stored from place at on.
+use def::EvcPm;
+use def::EvcPoc;
+use def::EvcRefP;
+use def::MAX_NUM_REF_PICS;
+use def::MAX_PB_SIZE;
+use def::REFP_PLACES;
+use def::Slot;
+ghost use mathlib.Core.Path.{_≡_};
+ghost use mathlib.Core.List.{flatMap};
+ghost use Prim.Native.Nat.{_+_, _*_, _≤_};
+ghost use lib.ListN.{length};
+ghost use Rattle.seq.specs.Stores.{Stored};
+ghost use Rattle.def.specs.State.{listPlaces};
+ghost use Rattle.def.specs.Word.{wordBytes, twosComplement};
+ghost use Rattle.image.specs.Image.{wordWidth, slotWidth, refpWidth, leasePlace, scalarsPlace, refpPlace, pocPlace, imageLength, flagByte, listBytes, slotBytes, scalarBytes, pmBytes, refpBytes, pocBytes, imageBytes};
+
+fn flag_byte(b: bool) -> u8
+    ensures { λ r. ⌜ r ≡ flagByte b ⌝ }
+{
+    if b { 1 } else { 0 }
+}
+
+// A signed number in two's complement.
+fn twos_complement(z: i32) -> u32
+    ensures { λ r. ⌜ r ≡ twosComplement z ⌝ }
+{
+    if 0 <= z {
+        z as u32
+    } else {
+        0xffff_ffff - ((-1 - z) as u32)
+    }
+}
+
+fn write_word(image: &mut [u8], at: usize, n: u32)
+    requires { ⌜ at + wordWidth ≤ length (now image) ⌝ }
+    ensures { λ _. ⌜ Stored (now (image .entry)) at (wordBytes n) wordWidth (now (image .exit)) ⌝ }
+{
+    image[at] = (n / 16777216 % 256) as u8;
+    image[at + 1] = (n / 65536 % 256) as u8;
+    image[at + 2] = (n / 256 % 256) as u8;
+    image[at + 3] = (n % 256) as u8;
+}
+
+// The 21 list numbers of a picture or of a list entry.
+fn write_list(image: &mut [u8], at: usize, list: [u32; MAX_NUM_REF_PICS])
+    requires { ⌜ at + 84 ≤ length (now image) ⌝ }
+    ensures { λ _. ⌜ Stored (now (image .entry)) at (listBytes list) 84 (now (image .exit)) ⌝ }
+{
+    let mut i = 0;
+    while i < MAX_NUM_REF_PICS {
+        write_word(image, at + 4 * i, list[i]);
+        i = i + 1;
+    }
+}
+
+fn write_slot(image: &mut [u8], at: usize, s: Slot)
+    requires { ⌜ at + slotWidth ≤ length (now image) ⌝ }
+    ensures { λ _. ⌜ Stored (now (image .entry)) at (slotBytes s) slotWidth (now (image .exit)) ⌝ }
+{
+    let pic = s.pic;
+    let list_poc = pic.list_poc;
+    image[at] = flag_byte(s.present);
+    image[at + 1] = s.buf;
+    image[at + 2] = flag_byte(pic.is_ref);
+    image[at + 3] = flag_byte(pic.need_for_out);
+    image[at + 4] = pic.temporal_id;
+    write_word(image, at + 5, pic.poc);
+    write_list(image, at + 9, list_poc);
+}
+
+fn write_slots(image: &mut [u8], pic: [Slot; MAX_PB_SIZE])
+    requires { ⌜ length (now image) ≡ imageLength ⌝ }
+    ensures { λ _. ⌜ Stored (now (image .entry)) 0 (flatMap slotBytes pic) leasePlace (now (image .exit)) ⌝ }
+{
+    let mut i = 0;
+    while i < MAX_PB_SIZE {
+        let s = pic[i];
+        write_slot(image, 93 * i, s);
+        i = i + 1;
+    }
+}
+
+// The state's numbers, behind its slots and its lease.
+fn write_scalars(image: &mut [u8], pm: EvcPm)
+    requires { ⌜ length (now image) ≡ imageLength ⌝ }
+    ensures { λ _. ⌜ Stored (now (image .entry)) scalarsPlace (scalarBytes pm) 11 (now (image .exit)) ⌝ }
+{
+    image[2604] = pm.max_pb_size;
+    image[2605] = pm.max_num_ref_pics;
+    image[2606] = pm.cur_pb_size;
+    image[2607] = pm.cur_num_ref_pics;
+    image[2608] = pm.num_refp_0;
+    image[2609] = pm.num_refp_1;
+    write_word(image, 2610, pm.poc_next_output);
+    image[2614] = pm.poc_increase;
+}
+
+fn write_pm(image: &mut [u8], pm: EvcPm)
+    requires { ⌜ length (now image) ≡ imageLength ⌝ }
+    ensures { λ _. ⌜ Stored (now (image .entry)) 0 (pmBytes pm) refpPlace (now (image .exit)) ⌝ }
+{
+    let pic = pm.pic;
+    let pic_lease = pm.pic_lease;
+    write_slots(image, pic);
+    write_slot(image, 2511, pic_lease);
+    write_scalars(image, pm);
+}
+
+fn write_refp(image: &mut [u8], at: usize, e: EvcRefP)
+    requires { ⌜ at + refpWidth ≤ length (now image) ⌝ }
+    ensures { λ _. ⌜ Stored (now (image .entry)) at (refpBytes e) refpWidth (now (image .exit)) ⌝ }
+{
+    let list_poc = e.list_poc;
+    image[at] = flag_byte(e.present);
+    image[at + 1] = e.buf;
+    write_word(image, at + 2, e.poc);
+    write_list(image, at + 6, list_poc);
+}
+
+// The two reference lists, flat, forward first.
+fn write_refps(image: &mut [u8], refp: [EvcRefP; REFP_PLACES])
+    requires { ⌜ length (now image) ≡ imageLength ⌝ }
+    ensures { λ _. ⌜ Stored (now (image .entry)) refpPlace (flatMap refpBytes refp) (refpWidth * (2 * listPlaces)) (now (image .exit)) ⌝ }
+{
+    let mut i = 0;
+    while i < REFP_PLACES {
+        let e = refp[i];
+        write_refp(image, 2615 + 90 * i, e);
+        i = i + 1;
+    }
+}
+
+fn write_poc(image: &mut [u8], poc: EvcPoc)
+    requires { ⌜ length (now image) ≡ imageLength ⌝ }
+    ensures { λ _. ⌜ Stored (now (image .entry)) pocPlace (pocBytes poc) 12 (now (image .exit)) ⌝ }
+{
+    let number = poc.poc_val.0;
+    let offset = poc.prev_doc_offset.0;
+    write_word(image, 6395, twos_complement(number));
+    write_word(image, 6399, poc.prev_poc_val);
+    write_word(image, 6403, twos_complement(offset));
+}
+
+// The whole image, whatever the bytes were before.
+pub fn write_image(image: &mut [u8], pm: EvcPm, refp: [EvcRefP; REFP_PLACES], poc: EvcPoc)
+    requires { ⌜ length (now image) ≡ imageLength ⌝ }
+    ensures { λ _. ⌜ now (image .exit) ≡ imageBytes pm refp poc ⌝ }
+{
+    write_pm(image, pm);
+    write_refps(image, refp);
+    write_poc(image, poc);
+}

@@ -1,0 +1,83 @@
+-- `picman_ffi::picman_copy_refp` meets its contract: each way out knows which test failed, the last that both were passed.
+-- Assumes nothing.
+use mathlib.Core.Path.{_≡_, sym, _∙_}
+use mathlib.Core.Bool.{true, false, true≢false}
+use mathlib.Core.List.{List}
+use Prim.Native.Nat.{ℕ}
+use lib.Dec.{eqb}
+use lib.ListN.{length}
+use borrow.Author.Tests.{not-true, not-false, eqb-true}
+use Rattle.seq.specs.All.{and-left}
+use Rattle.image.specs.Image.{refpWidth, isFlag, isImage}
+use Rattle.picman_ffi.specs.Lent.{Left}
+use Rattle.picman_ffi.specs.Copied.{isEntry, copyInto, relisted, copied}
+use Rattle.image.specs.BytesKept.{image-long}
+use borrow.Author.Needs.{needs}
+use Rattle.picman_ffi.proofs.picman_copy_refp.Statement.{statement}
+use Rattle.picman_ffi.proofs.picman_copy_refp.Tie as tie
+
+-- where both tests are passed
+copied-fits : (image : List ℕ) (cnt lidx : ℕ) (entry : List ℕ) (x : Left) → isImage image ≡ true → isEntry entry ≡ true
+    → x ≡ relisted image (copyInto image cnt lidx entry) → x ≡ copied image cnt lidx entry
+unfolding copied
+copied-fits image cnt lidx entry x e f p = rw (e, f) p
+
+entry-long : (bs : List ℕ) → isEntry bs ≡ true → length bs ≡ refpWidth
+entry-long bs e = eqb-true (length bs) refpWidth (and-left (eqb (length bs) refpWidth) (isFlag bs 0) e)
+
+not-image : (c : tie.Then1) → isImage (c .before .before .before .before .before .args .image .now) ≡ false
+not-image c = sym (c .before .is-image .ensures) ∙ not-true _ (c .if1 .taken)
+
+an-image : (c : tie.Else1) → isImage (c .before .before .before .before .before .args .image .now) ≡ true
+an-image c = sym (c .before .is-image .ensures) ∙ not-false _ (c .if1 .left)
+
+an-entry : (c : tie.Else2) → isEntry (c .before .before .before .before .before .before .before .args .entry .now) ≡ true
+an-entry c = sym (c .before .is-entry .ensures) ∙ not-false _ (c .if2 .left)
+
+is-image-requires : tie.Need-is-image-requires
+is-image-requires c κs = search needs
+
+same-length : tie.Need-same-length
+same-length c = search needs
+
+returns : tie.Need-returns
+unfolding copied
+returns c = (rw (not-image c), λ f _. absurd (true≢false (sym f ∙ not-image c)))
+
+is-entry-requires : tie.Need-is-entry-requires
+is-entry-requires c κs = search needs
+
+same-length-2 : tie.Need-same-length-2
+same-length-2 c = search needs
+
+returns-2 : tie.Need-returns-2
+unfolding copied
+returns-2 c =
+    let e : isEntry (c .before .before .before .before .before .before .before .args .entry .now) ≡ false = sym (c .before .is-entry .ensures) ∙ not-true _ (c .if2 .taken) in
+    (rw (an-image (c .before .before), e), λ _ f. absurd (true≢false (sym f ∙ e)))
+
+copy-entry-requires : tie.Need-copy-entry-requires
+copy-entry-requires c κs = (image-long _ (an-image (c .before .before .before)), entry-long (c .before .before .before .before .before .before .before .before .args .entry .now) (an-entry (c .before)))
+
+same-length-3 : tie.Need-same-length-3
+same-length-3 c = search needs
+
+returns-3 : tie.Need-returns-3
+returns-3 c =
+    let s = c .before .before .before .before in
+    let e = c .before .before .copy-entry .ensures in
+    (copied-fits _ _ _ _ _ (an-image (s .before .before)) (an-entry s) (e .0), λ _ _. e .1)
+
+pub picman-copy-refp-spec : {M : Type 1} → statement M
+picman-copy-refp-spec =
+    tie.close
+    (tie.spec
+    is-image-requires
+    same-length
+    returns
+    is-entry-requires
+    same-length-2
+    returns-2
+    copy-entry-requires
+    same-length-3
+    returns-3)

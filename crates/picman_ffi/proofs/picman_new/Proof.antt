@@ -1,0 +1,38 @@
+-- `picman_ffi::picman_new` meets its contract: the length is tested, and the new machine written.
+-- Assumes nothing.
+use mathlib.Core.Path.{subst}
+use lib.ListN.{length}
+use borrow.Author.Tests.{eq-eqb, ne-eqb}
+use Rattle.image.specs.Image.{imageLength}
+use Rattle.picman_ffi.specs.Called.{renewed}
+use Rattle.picman_ffi.specs.Lent.{Holds}
+use borrow.Author.Needs.{needs}
+use Rattle.picman_ffi.proofs.picman_new.Statement.{statement}
+use Rattle.picman_ffi.proofs.picman_new.Tie as tie
+
+returns : tie.Need-returns
+unfolding renewed
+returns c = (rw (ne-eqb (length (c .before .before .args .image .now)) imageLength (c .if1 .taken)), λ e. absurd (c .if1 .taken e))
+
+new-machine-requires : tie.Need-new-machine-requires
+new-machine-requires c κs = search needs
+
+write-machine-requires : tie.Need-write-machine-requires
+write-machine-requires c κs = search needs
+
+same-length : tie.Need-same-length
+same-length c = search needs
+
+returns-2 : tie.Need-returns-2
+unfolding renewed
+returns-2 c =
+    let written = c .before .before in
+    let made = written .before .before in
+    let long = made .before in (
+      rw (eq-eqb (length (long .before .before .args .image .now)) imageLength (long .if1 .left), written .write-machine .ensures .0, made .new-machine .ensures),
+      λ _. subst (Holds (written .write-machine .last .0)) (made .new-machine .ensures) (written .write-machine .ensures .1),
+    )
+
+pub picman-new-spec : {M : Type 1} → statement M
+picman-new-spec =
+    tie.close (tie.spec returns new-machine-requires write-machine-requires same-length returns-2)

@@ -1,0 +1,5 @@
+pub mod Lent
+pub mod Depths
+pub mod Copied
+pub mod Called
+pub mod TurnedDown

@@ -1,0 +1,8 @@
+//! The runs of one comparison.
+
+pub mod exhaustive;
+pub mod frames;
+pub mod images;
+pub mod sequences;
+pub mod states;
+pub mod tables;
