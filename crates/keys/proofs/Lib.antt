@@ -1,0 +1,3 @@
+pub mod RowLaws
+pub mod KeyLaws
+pub mod ListRows

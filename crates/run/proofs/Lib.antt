@@ -1,0 +1,8 @@
+pub mod PartialLaws
+pub mod Feeding
+pub mod Pieces
+pub mod Kept
+pub mod Turns
+pub mod NextLines
+pub mod Ending
+pub mod Claims
