@@ -2,10 +2,9 @@
 -- Assumes nothing.
 use Prim.Native.Nat.{ℕ, _-_}
 use mathlib.Core.Bool.{cond, not}
-use mathlib.Core.List.{map}
 use lib.Dec.{leb, ltb}
 use lib.ListN.{getD}
-use Rattle.seq.specs.Lists.{count, select, lowest, removeAt, smallestNotIn}
+use Rattle.seq.specs.Lists.{count, lowest, removeAt, smallestNotIn}
 use Rattle.def.specs.declared.Slot.{Slot}
 use Rattle.def.specs.declared.EvcPm.{EvcPm}
 use Rattle.def.specs.declared.PmResult.{PmResult}
@@ -14,7 +13,7 @@ use Rattle.def.specs.declared.Answer.the-variants.{Picture, Refused}
 use Rattle.def.specs.declared.Refusal.{Refusal}
 use Rattle.def.specs.declared.Refusal.the-variants.{StoreFull, PictureLeased, StateNotWhole}
 use Rattle.def.specs.State.{slots, newPic, emptySlot, noSlot, held, isIdle, withStore}
-use Rattle.whole.specs.Whole.{whole, isPresent, bufferOf}
+use Rattle.whole.specs.Whole.{whole, isPresent, buffersOf}
 
 -- A call turned down leaves the state as it was.
 abbrev pub refused : Refusal → EvcPm → PmResult
@@ -34,7 +33,7 @@ reuse pm i =
 
 -- A new picture is all zero and gets the smallest buffer number that no slot holds.
 abbrev pub freeBuffer : EvcPm → ℕ
-freeBuffer pm = smallestNotIn (map bufferOf (select isPresent (pm .pic)))
+freeBuffer pm = smallestNotIn (buffersOf (pm .pic))
 
 abbrev pub fresh : EvcPm → PmResult
 fresh pm =

@@ -2,6 +2,7 @@ pub mod Lists
 pub mod All
 pub mod Apart
 pub mod Changes
+pub mod Commute
 pub mod Counts
 pub mod Distinct
 pub mod Fills

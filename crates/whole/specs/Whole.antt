@@ -10,13 +10,19 @@ use Rattle.def.specs.declared.EvcPm.{EvcPm}
 use Rattle.def.specs.State.{slots, listPlaces, highestPoc, isMarked}
 pub use Rattle.def.specs.State.{isPresent, bufferOf}
 
--- The slots and, last, the lease.
-abbrev pub places : EvcPm → List Slot
-places pm = pm .pic ++ (pm .«pic_lease» ∷ [])
+-- The leases, one at most today, and the places for pictures: the slots and, last, the leases.
+abbrev pub leases : EvcPm → List Slot
+leases pm = pm .«pic_lease» ∷ []
 
--- The buffer numbers that slots and lease hold.
+abbrev pub places : EvcPm → List Slot
+places pm = pm .pic ++ leases pm
+
+-- The buffer numbers that places hold.
+abbrev pub buffersOf : List Slot → List ℕ
+buffersOf xs = map bufferOf (select isPresent xs)
+
 abbrev pub heldBuffers : EvcPm → List ℕ
-heldBuffers pm = map bufferOf (select isPresent (places pm))
+heldBuffers pm = buffersOf (places pm)
 
 -- An empty slot or lease is an all-zero record.
 abbrev pub zeroIfEmpty : Slot → Bool
