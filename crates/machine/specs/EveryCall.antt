@@ -52,11 +52,9 @@ use Rattle.line.specs.declared.Call.the-variants.{Init, GetEmptyPic, PutPic, Ou
 use Rattle.line.specs.declared.Line.{Line}
 use Rattle.line.specs.declared.Line.the-variants.{Good, Bad}
 use Rattle.line.specs.declared.Reply.{Reply}
-use Rattle.line.specs.Calls.{readLine}
 use Rattle.line.specs.Answers.{replyOf}
 use Rattle.machine.specs.declared.Machine.{Machine}
 use Rattle.machine.specs.Step.{newMachine, putCallOf, refpCallOf, derivedReply, step, stepLine}
-use Rattle.machine.specs.Run.{Runner, endLine, extendLine, feed, start}
 
 -- ---- a call that is turned down
 
@@ -235,19 +233,3 @@ pub line-not-seven : (m : Machine) (l : Line) → Sound m → stepLine m l .repl
 unfolding stepLine
 line-not-seven m (Good c) s e = call-not-seven m c s e
 line-not-seven m Bad s e = absurd (omega arith)
-
--- Whatever a run has read, its state is whole, and no line is then answered with 7.
-byte-sound : (r : Runner) (c : ℕ) → Sound (r .machine) → (b : Bool) → Sound (cond b (endLine r) (extendLine r c) .runner .machine)
-byte-sound r c s true = line-sound (r .machine) (readLine (r .line)) s
-byte-sound r c s false = s
-
-feed-sound : (r : Runner) (cs : List ℕ) → Sound (r .machine) → Sound (feed r cs .runner .machine)
-unfolding feed
-feed-sound r [] s = s
-feed-sound r (c ∷ cs) s = feed-sound _ cs (byte-sound r c s (eqb c 10))
-
-pub run-sound : (input : List ℕ) → Sound (feed start input .runner .machine)
-run-sound input = feed-sound start input new-sound
-
-pub run-not-seven : (input line : List ℕ) → stepLine (feed start input .runner .machine) (readLine line) .reply .status ≡ 7 → ⊥
-run-not-seven input line e = line-not-seven _ (readLine line) (run-sound input) e

@@ -8,9 +8,9 @@ use mathlib.Core.List.{List, [], _∷_, _++_, append-nil}
 use lib.ListN.{length, take, drop}
 use lib.Seq.{append-snoc}
 use Rattle.seq.specs.Lists.{lowest}
 use Rattle.machine.specs.declared.Machine.{Machine}
-use Rattle.machine.specs.Run.{Runner, Fed, after, endLine, extendLine, feed}
-use Rattle.machine.specs.Partial.{isNewline}
+use Rattle.run.specs.Run.{Runner, Fed, after, endLine, extendLine, feed}
+use Rattle.line.specs.Lines.{isNewline}
 
 abbrev pub runnerOf : Machine → List ℕ → Runner
 runnerOf m line = record { machine = m; line = line }

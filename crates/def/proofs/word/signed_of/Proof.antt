@@ -1,4 +1,4 @@
--- `machine::fields::signed_of` meets its contract: the machine's own reading of four bytes as a signed number is two's complement.
+-- `def::word::signed_of` meets its contract: the machine's own reading of four bytes as a signed number is two's complement.
 -- Assumes nothing.
 use Prim.Native.Nat.{ℕ, suc, _-_, _^_, _≤_, _<_}
 use native.Mathlib.Omega.{arith}
@@ -8,9 +8,9 @@ use mir.Syntax.{w32}
 use mir.Val.{toZ}
 use borrow.Author.Tests.{lt-ltb, le-ltb}
 use borrow.Author.Needs.{needs}
-use Rattle.machine.specs.Step.{signedOf}
-use Rattle.machine.proofs.fields.signed_of.Statement.{statement}
-use Rattle.machine.proofs.fields.signed_of.Tie as tie
+use Rattle.def.specs.Word.{signedOf}
+use Rattle.def.proofs.word.signed_of.Statement.{statement}
+use Rattle.def.proofs.word.signed_of.Tie as tie
 
 low : (n : ℕ) → n < 2147483648 → toZ w32 n ≡ signedOf n
 low n h = rw (lt-ltb n 2147483648 h)

@@ -6,9 +6,10 @@ use mathlib.Core.List.{List, [], _∷_, _++_, append-assoc}
 use Prim.Native.Nat.{ℕ}
 use lib.Dec.{eqb}
 use Rattle.line.specs.Calls.{readLine}
-use Rattle.line.specs.Answers.{answerLine, newline}
+use Rattle.line.specs.Answers.{answerLine}
 use Rattle.machine.specs.Step.{stepLine}
-use Rattle.machine.specs.Run.{Runner, Fed, after, linesFrom, answersTo, program, endLine, extendLine, feedByte, feed, feedPieces, finish, start, joined, PiecesAgree}
+use Rattle.line.specs.Lines.{newline, linesFrom}
+use Rattle.run.specs.Run.{Runner, Fed, after, answersTo, program, endLine, extendLine, feedByte, feed, feedPieces, finish, start, joined, PiecesAgree}
 
 feed-append : (r : Runner) (p q : List ℕ) → feed r (p ++ q) ≡ after (feed r p .written) (feed (feed r p .runner) q)
 unfolding feed

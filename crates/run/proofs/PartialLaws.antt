@@ -1,34 +1,17 @@
--- The line that is not finished yet between two pieces of the input: its first 27 characters are kept, and they decide what it says,
--- since a line of more than 26 characters is bad.
+-- The characters that are kept of an unfinished line say what the whole line says, and how more of them are added.
 -- Assumes nothing.
 use Prim.Native.Nat.{ℕ, _+_, _-_, _≤_, _<_, min}
 use native.Mathlib.Omega.{arith}
 use mathlib.Core.Path.{_≡_, refl, sym, ap, _∙_}
 use mathlib.Core.Bool.{Bool, true, false}
 use mathlib.Core.List.{List, _++_}
-use lib.Dec.{eqb, leb}
+use lib.Dec.{leb}
 use lib.ListN.{length, take}
 use lib.Seq.{take-all, length-take-le, take-append-add, paste, take-paste}
 use borrow.Author.Tests.{leb-true, leb-false}
 use Rattle.line.specs.Calls.{readLine}
 use Rattle.line.specs.CallLaws.{too-long}
-use Rattle.line.specs.Answers.{newline}
-use Rattle.machine.specs.declared.partial.Partial.{Partial}
-
-abbrev pub isNewline : ℕ → Bool
-isNewline c = eqb c newline
-
--- How many characters are kept.
-abbrev pub kept : ℕ
-kept = 27
-
-abbrev pub heldLine : Partial → List ℕ
-heldLine p = take (p .len) (p .bytes)
-
--- There are 27 bytes, and the length stays within them.
-pub record Room (p : Partial) : Type 0 where
-  pub bytes-long : length (p .bytes) ≡ kept
-  pub fits : p .len ≤ kept
+use Rattle.run.specs.Partial.{kept}
 
 -- The characters that are kept say what the whole line says.
 pub kept-reads : (l : List ℕ) → readLine (take kept l) ≡ readLine l

@@ -1,4 +1,4 @@
--- A run that keeps only the first 27 characters of its unfinished line between pieces writes what the program writes, however the input is cut.
+-- Runs that agree in their machine and in what is kept of their unfinished line go on alike.
 -- Assumes nothing.
 use Prim.Native.Nat.{ℕ, zero, suc}
 use native.Mathlib.Omega.{arith}
@@ -7,30 +7,19 @@ use mathlib.Core.Bool.{Bool, true, false, cond}
 use mathlib.Core.List.{List, [], _∷_, _++_}
 use lib.Dec.{eqb}
 use lib.ListN.{take}
-use lib.Seq.{take-take}
 use Rattle.line.specs.Calls.{readLine}
-use Rattle.line.specs.Answers.{answerLine, newline}
+use Rattle.line.specs.Answers.{answerLine}
+use Rattle.line.specs.Lines.{newline}
 use Rattle.line.specs.declared.Line.{Line}
 use Rattle.machine.specs.declared.Machine.{Machine}
 use Rattle.machine.specs.Step.{stepLine}
-use Rattle.machine.specs.Run.{Runner, Fed, program, lastLine, answersTo, endLine, extendLine, feedByte, feed, feedPieces, finish, start, joined}
-use Rattle.machine.specs.Partial.{kept, kept-reads}
-use Rattle.machine.specs.Pieces.{pieces-agree}
+use Rattle.line.specs.Lines.{lastLine}
+use Rattle.run.specs.Run.{Runner, Fed, answersTo, endLine, extendLine, feedByte, feed, finish}
+use Rattle.run.specs.Partial.{kept}
+use Rattle.run.proofs.PartialLaws.{kept-reads}
 
 join : {a b c d : List ℕ} → a ≡ b → c ≡ d → a ++ c ≡ b ++ d
 join e f = cc
-
--- The run with only what is kept of its unfinished line.
-abbrev pub keeping : Runner → Runner
-keeping r = record { machine = r .machine; line = take kept (r .line) }
-
--- Pieces in turn, where only that is kept from one to the next.
-unfoldable pub feedKept : Runner → List (List ℕ) → Fed
-feedKept r [] = record { runner = r; written = [] }
-feedKept r (p ∷ ps) =
-    let next = feed r p in
-    let rest = feedKept (keeping (next .runner)) ps in
-    record { runner = rest .runner; written = next .written ++ rest .written }
 
 -- Two runs that keep the same go on alike.
 pub record Alike (r s : Runner) : Type 0 where
@@ -43,9 +32,6 @@ pub record FedAlike (f g : Fed) : Type 0 where
 
 alike-reads : {r s : Runner} → Alike r s → readLine (r .line) ≡ readLine (s .line)
 alike-reads {r} {s} a = sym (kept-reads (r .line)) ∙ ap readLine (a .lines) ∙ kept-reads (s .line)
-
-pub keeping-alike : (r : Runner) → Alike (keeping r) r
-keeping-alike r = record { machines = refl; lines = take-take kept kept (r .line) (omega arith) }
 
 take-more : (k : ℕ) (l cs : List ℕ) → take k (take k l ++ cs) ≡ take k (l ++ cs)
 take-more zero l cs = refl
@@ -90,17 +76,7 @@ feed-alike {r} {s} (c ∷ cs) a =
     let f = feed-alike cs (n .runners) in
     record { runners = f .runners; written = join (n .written) (f .written) }
 
--- what a run that keeps 27 characters writes, and where it stops
-pub kept-pieces : {r s : Runner} (ps : List (List ℕ)) → Alike r s → FedAlike (feedKept r ps) (feedPieces s ps)
-unfolding feedKept feedPieces
-kept-pieces [] a = record { runners = a; written = refl }
-kept-pieces {r} {s} (p ∷ ps) a =
-    let n = feed-alike p a in
-    let k = keeping-alike (feed r p .runner) in
-    let f = kept-pieces ps (record { machines = k .machines ∙ n .runners .machines; lines = k .lines ∙ n .runners .lines }) in
-    record { runners = f .runners; written = join (n .written) (f .written) }
-
-finish-alike : {r s : Runner} → Alike r s → finish r ≡ finish s
+pub finish-alike : {r s : Runner} → Alike r s → finish r ≡ finish s
 unfolding answersTo
 finish-alike {r} {s} a = ap (λ (m : Machine). answersTo m (lastLine (r .line))) (a .machines) ∙ by (r .line) (s .line) (a .lines) (alike-reads a)
   where
@@ -109,9 +85,3 @@ finish-alike {r} {s} a = ap (λ (m : Machine). answersTo m (lastLine (r .line)))
     by [] (c ∷ cs) e f = absurd (let z : _≡_ {A = ℕ} 0 1 = cc in omega arith)
     by (c ∷ cs) [] e f = absurd (let z : _≡_ {A = ℕ} 0 1 = cc in omega arith)
     by (c ∷ cs) (d ∷ ds) e f = ap (λ (l : Line). answerLine (stepLine (s .machine) l .reply) ++ []) f
-
--- However the input is cut into pieces.
-pub kept-agree : (pieces : List (List ℕ)) → feedKept start pieces .written ++ finish (feedKept start pieces .runner) ≡ program (joined pieces)
-kept-agree pieces =
-    let f = kept-pieces pieces (record { machines = refl; lines = refl }) in
-    join (f .written) (finish-alike (f .runners)) ∙ pieces-agree pieces

@@ -6,19 +6,10 @@ use mathlib.Core.Bool.{Bool, true, false, cond}
 use mathlib.Core.List.{List, [], _∷_, _++_}
 use lib.Dec.{eqb}
 use Rattle.line.specs.Calls.{readLine}
-use Rattle.line.specs.Answers.{answerLine, newline}
+use Rattle.line.specs.Answers.{answerLine}
+use Rattle.line.specs.Lines.{newline, lastLine, linesFrom}
 use Rattle.machine.specs.declared.Machine.{Machine}
 use Rattle.machine.specs.Step.{stepLine, newMachine}
-
--- A last line may lack its newline; nothing after the last newline is no line.
-abbrev pub lastLine : List ℕ → List (List ℕ)
-lastLine [] = []
-lastLine (c ∷ cs) = (c ∷ cs) ∷ []
-
--- The lines of an input whose unfinished line so far is `line`: a newline ends a line, and nothing else does.
-unfoldable pub linesFrom : List ℕ → List ℕ → List (List ℕ)
-linesFrom line [] = lastLine line
-linesFrom line (c ∷ cs) = cond (eqb c newline) (line ∷ linesFrom [] cs) (linesFrom (line ++ (c ∷ [])) cs)
 
 -- The answers to lines, each on the machine that the one before left.
 unfoldable pub answersTo : Machine → List (List ℕ) → List ℕ

@@ -1,4 +1,4 @@
--- `machine::fields::twos_complement` meets its contract: turning all bits over twice, with the sign gone in between, is two's complement.
+-- `def::word::twos_complement` meets its contract: turning all bits over twice, with the sign gone in between, is two's complement.
 -- Assumes nothing.
 use Prim.Native.Nat.{ℕ, suc, _+_, _-_, _<_}
 use native.Mathlib.Omega.{arith}
@@ -12,9 +12,9 @@ use mir.Val.{Fits, SFits, toZ, ofZ}
 use mir.ValLaws.{toZ-pos, toZ-ofZ}
 use borrow.Author.Tests.{ltb-true}
 use borrow.Author.Needs.{needs}
-use Rattle.line.specs.Answers.{twosComplement}
-use Rattle.machine.proofs.fields.twos_complement.Statement.{statement}
-use Rattle.machine.proofs.fields.twos_complement.Tie as tie
+use Rattle.def.specs.Word.{twosComplement}
+use Rattle.def.proofs.word.twos_complement.Statement.{statement}
+use Rattle.def.proofs.word.twos_complement.Tie as tie
 
 -- a negative number with its bits turned over, and turned back
 turned : (z : ℤ) → SFits w32 z → ltZ z (pos 0) ≡ true

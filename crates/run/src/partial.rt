@@ -2,15 +2,14 @@
 // one that is longer is bad whatever follows.
 use line::LONGEST_LINE;
 use line::Line;
+use line::buffer::paste;
 use line::read_line;
 ghost use mathlib.Core.Path.{_≡_};
 ghost use mathlib.Core.List.{[], _++_};
-ghost use Prim.Native.Nat.{_+_, _≤_, min};
-ghost use lib.ListN.{length, take, drop};
-ghost use lib.Seq.{paste};
-ghost use Rattle.seq.specs.Lists.{lowest};
+ghost use Prim.Native.Nat.{min};
+ghost use lib.ListN.{take};
 ghost use Rattle.line.specs.Calls.{readLine};
-ghost use Rattle.machine.specs.Partial.{isNewline, kept, heldLine, Room};
+ghost use Rattle.run.specs.Partial.{kept, heldLine, Room};
 
 pub const KEPT: usize = LONGEST_LINE + 1;
 
@@ -26,33 +25,6 @@ pub fn no_line() -> Partial
     Partial {
         bytes: [0; KEPT],
         len: 0,
-    }
-}
-
-// The place of the first newline from a place on, or the length where there is none.
-pub fn line_end(piece: &[u8], from: usize) -> usize
-    requires { ⌜ from ≤ length (now piece) ⌝ }
-    ensures { λ r. ⌜ r ≡ from + lowest isNewline (drop from (now (piece .entry))) ⌝ }
-{
-    let mut i = from;
-    while i < piece.len() {
-        if piece[i] == b'\n' {
-            return i;
-        }
-        i += 1;
-    }
-    i
-}
-
-// Writes the first `n` bytes of `src` into `dst` from a place on.
-pub fn paste(dst: &mut [u8], at: usize, src: &[u8], n: usize)
-    requires { ⌜ (at + n ≤ length (now dst)) × (n ≤ length (now src)) ⌝ }
-    ensures { λ r. ⌜ now (dst .exit) ≡ paste (now (dst .entry)) at (now (src .entry)) n ⌝ }
-{
-    let mut i = 0;
-    while i < n {
-        dst[at + i] = src[i];
-        i += 1;
     }
 }
 

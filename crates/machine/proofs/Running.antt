@@ -1,0 +1,54 @@
+-- From what a call of the core comes to, to what it does to the machine that the arrays stand for.
+-- Assumes nothing.
+use mathlib.Core.Path.{_≡_, refl, sym, ap, _∙_, subst}
+use mathlib.Core.Bool.{true}
+use mathlib.Core.List.{List}
+use Prim.Native.Nat.{ℕ}
+use lib.ListN.{length, length-map}
+use Rattle.def.specs.declared.{EvcPm.EvcPm, EvcRefP.EvcRefP, EvcPoc.EvcPoc, PmResult.PmResult, RefpResult.RefpResult}
+use Rattle.def.specs.State.{slots}
+use Rattle.keys.specs.Keys.{slotAt, stands, listsIn, Sized, Comes, ComesLists}
+use Rattle.keys.specs.declared.Called.{Called}
+use Rattle.whole.specs.Whole.{whole}
+use Rattle.line.specs.declared.Reply.{Reply}
+use Rattle.line.specs.Answers.{replyOf}
+use Rattle.machine.specs.declared.{Machine.Machine, Stepped.Stepped, Scalars.Scalars, Made.Made}
+use Rattle.machine.specs.Step.{newMachine, stepped, onState, onLists}
+use Rattle.machine.specs.Running.{machineIn, newScalars, Runs, Makes, madeOf}
+use Rattle.machine.specs.EveryCall.{Sound}
+
+pub sound-in : {keys rows : List ℕ} {s : Scalars} → Runs keys rows s → Sound (machineIn keys rows s)
+sound-in {keys} {rows} r = record { whole-state = r .whole-state; all-slots = length-map keys (slotAt rows) ∙ r .sized .slots-long }
+
+-- The new machine is what arrays of zeros and the new scalars stand for.
+pub new-machine : machineIn (Prim.replicate slots 0) (Prim.replicate 1533 0) newScalars ≡ newMachine
+new-machine = refl
+
+module _ (keys rows : List ℕ) (s : Scalars) (call : ℕ) where
+  abbrev m : Machine
+  m = machineIn keys rows s
+
+  -- A call on the state.
+  pub state-makes : {made : Made} {r : Called} {keys′ rows′ : List ℕ} {x w : PmResult}
+      → made ≡ madeOf call r (s .poc) → x ≡ w → Sound (onState call m x .machine) → Comes r keys′ rows′ (listsIn rows) w
+      → Makes made keys′ rows′ (onState call m x)
+  state-makes {r = r} {keys′} {rows′} {x} e f sound c =
+      let pm-is : stands keys′ rows′ (r .rest) ≡ x .pm = c .stands-for ∙ ap (λ (y : PmResult). y .pm) (sym f) in
+      rw e (record {
+        replies = ap (replyOf call) (c .answers ∙ ap (λ (y : PmResult). y .answer) (sym f));
+        machine-is = rw (pm-is, c .lists-stay) refl;
+        still-runs = record { sized = c .still-sized; whole-state = ap whole pm-is ∙ sound .whole-state };
+      })
+
+  -- A call on state and lists.
+  pub lists-makes : {made : Made} {r : Called} {keys′ rows′ : List ℕ} {x w : RefpResult}
+      → made ≡ madeOf call r (s .poc) → x ≡ w → Sound (onLists call m x .machine) → ComesLists r keys′ rows′ w
+      → Makes made keys′ rows′ (onLists call m x)
+  lists-makes {r = r} {keys′} {rows′} {x} e f sound c =
+      let pm-is : stands keys′ rows′ (r .rest) ≡ x .pm = c .lists-stand-for ∙ ap (λ (y : RefpResult). y .pm) (sym f) in
+      let refp-is : listsIn rows′ ≡ x .refp = c .lists-are ∙ ap (λ (y : RefpResult). y .refp) (sym f) in
+      rw e (record {
+        replies = ap (replyOf call) (c .lists-answers ∙ ap (λ (y : RefpResult). y .answer) (sym f));
+        machine-is = rw (pm-is, refp-is) refl;
+        still-runs = record { sized = c .lists-sized; whole-state = ap whole pm-is ∙ sound .whole-state };
+      })
