@@ -18,16 +18,36 @@ use Rattle.machine.specs.declared.{Machine.Machine, Stepped.Stepped, Sca
 abbrev pub machineIn : List ℕ → List ℕ → Scalars → Machine
 machineIn keys rows s = record { pm = stands keys rows (s .rest); refp = listsIn rows; poc = s .poc }
 
+-- Every call but the derivation reads the state, which it tests first.
+abbrev pub readsState : Call → Bool
+readsState (Init size refs) = true
+readsState GetEmptyPic = true
+readsState (PutPic flags poc tid gap) = true
+readsState OutPic = true
+readsState (RefpInit slice poc layer intra limit) = true
+readsState (PocDerivation L t) = false
+
 -- Arrays of the right size whose state is whole.
 pub record Runs (keys rows : List ℕ) (s : Scalars) : Type 0 where
   pub sized : Sized keys rows
   pub whole-state : whole (stands keys rows (s .rest)) ≡ true
 
+-- What a call asks of them: a call that reads the state asks that it is whole.
+pub record CallRoom (keys rows : List ℕ) (s : Scalars) (call : Call) : Type 0 where
+  pub sized : Sized keys rows
+  pub ready : readsState call ≡ true → whole (stands keys rows (s .rest)) ≡ true
+
 -- The reply and the machine after the call are the definition's.
 pub record Makes (r : Made) (keys rows : List ℕ) (wanted : Stepped) : Type 0 where
   pub replies : r .reply ≡ wanted .reply
   pub machine-is : machineIn keys rows (r .scalars) ≡ wanted .machine
-  pub still-runs : Runs keys rows (r .scalars)
+  pub still-sized : Sized keys rows
+
+-- A call that finds a state that is not whole touches nothing.
+pub record Untouched (r : Made) (s : Scalars) (keys rows keys′ rows′ : List ℕ) : Type 0 where
+  pub same-keys : keys′ ≡ keys
+  pub same-rows : rows′ ≡ rows
+  pub same-scalars : r .scalars ≡ s
 
 -- A call's answer as a reply; state and lists are the call's, the record stays.
 abbrev pub madeOf : ℕ → Called → EvcPoc → Made
@@ -51,11 +71,11 @@ newScalars =
       poc = recordOf (pos 0) 0 0;
     }
 
--- Every call but the derivation reads the state, which it tests first.
-abbrev pub readsState : Call → Bool
-readsState (Init size refs) = true
-readsState GetEmptyPic = true
-readsState (PutPic flags poc tid gap) = true
-readsState OutPic = true
-readsState (RefpInit slice poc layer intra limit) = true
-readsState (PocDerivation L t) = false
+-- The byte that an answer to the call begins with.
+abbrev pub callByte : Call → ℕ
+callByte (Init size refs) = 1
+callByte GetEmptyPic = 2
+callByte (PutPic flags poc tid gap) = 3
+callByte OutPic = 4
+callByte (RefpInit slice poc layer intra limit) = 5
+callByte (PocDerivation L t) = 6

@@ -18,7 +18,9 @@ use keys::SLOTS;
 use line::Call;
 use line::reply_of;
 use poc::poc_derivation;
+use whole::is_whole;
 ghost use mathlib.Core.Path.{_≡_};
+ghost use mathlib.Core.Bool.{true, false};
 ghost use Rattle.poc.specs.PictureNumber.{derive};
 ghost use Rattle.picman.specs.Init.{init};
 ghost use Rattle.picman.specs.Get.{get};
@@ -26,7 +28,9 @@ ghost use Rattle.picman.specs.Put.{put};
 ghost use Rattle.picman.specs.Out.{out};
 ghost use Rattle.refp.specs.Lists.{lists};
 ghost use Rattle.machine.specs.Step.{onState, onLists, onRecord, putCallOf, refpCallOf, derivedReply, step};
-ghost use Rattle.machine.specs.Running.{machineIn, Runs, Makes, madeOf};
+ghost use Rattle.keys.specs.Keys.{stands, Sized};
+ghost use Rattle.whole.specs.Whole.{whole};
+ghost use Rattle.machine.specs.Running.{machineIn, readsState, callByte, Runs, CallRoom, Makes, Untouched, madeOf};
 
 // The call bytes of answers.
 const INIT: u8 = 1;
@@ -38,6 +42,8 @@ const PUT_PIC: u8 = 3;
 const OUT_PIC: u8 = 4;
 
 const REFP_INIT: u8 = 5;
+
+const POC_DERIVATION: u8 = 6;
 
 // What a call on state and lists comes to; the record stays.
 fn made(call: u8, called: Called, poc: EvcPoc) -> Made
@@ -127,9 +133,40 @@ fn poc_call(s: Scalars, log2_sub_gop_length: u8, tid: u8) -> Made
     }
 }
 
-// A call on a whole state.
+// Whether a call reads the state.
+fn reads_state(call: Call) -> bool
+    ensures { λ r. ⌜ r ≡ readsState call ⌝ }
+{
+    match call {
+        Call::Init {
+            max_pb_size,
+            max_num_ref_pics,
+        } => true,
+        Call::GetEmptyPic => true,
+        Call::PutPic {
+            flags,
+            poc,
+            temporal_id,
+            ref_pic_gap_length,
+        } => true,
+        Call::OutPic => true,
+        Call::RefpInit {
+            slice_type,
+            poc,
+            layer_id,
+            last_intra,
+            max_num_ref_pics,
+        } => true,
+        Call::PocDerivation {
+            log2_sub_gop_length,
+            tid,
+        } => false,
+    }
+}
+
+// A call, where it reads the state, on one that is whole.
 pub fn make_call(keys: &mut [u64], rows: &mut [u32], s: Scalars, call: Call) -> Made
-    requires { ⌜ Runs (now keys) (now rows) s ⌝ }
+    requires { ⌜ CallRoom (now keys) (now rows) s call ⌝ }
     ensures { λ r. ⌜ Makes r (now (keys .exit)) (now (rows .exit)) (step (machineIn (now (keys .entry)) (now (rows .entry)) s) call) ⌝ }
 {
     match call {
@@ -167,4 +204,52 @@ pub fn make_call(keys: &mut [u64], rows: &mut [u32], s: Scalars, call: Call) -> 
             tid,
         } => poc_call(s, log2_sub_gop_length, tid),
     }
+}
+
+fn call_byte(call: Call) -> u8
+    ensures { λ r. ⌜ r ≡ callByte call ⌝ }
+{
+    match call {
+        Call::Init {
+            max_pb_size,
+            max_num_ref_pics,
+        } => INIT,
+        Call::GetEmptyPic => GET_EMPTY_PIC,
+        Call::PutPic {
+            flags,
+            poc,
+            temporal_id,
+            ref_pic_gap_length,
+        } => PUT_PIC,
+        Call::OutPic => OUT_PIC,
+        Call::RefpInit {
+            slice_type,
+            poc,
+            layer_id,
+            last_intra,
+            max_num_ref_pics,
+        } => REFP_INIT,
+        Call::PocDerivation {
+            log2_sub_gop_length,
+            tid,
+        } => POC_DERIVATION,
+    }
+}
+
+// A call on any bits: one that reads the state tests first whether it is whole.
+pub fn checked_call(keys: &mut [u64], rows: &mut [u32], s: Scalars, call: Call) -> Made
+    requires { ⌜ Sized (now keys) (now rows) ⌝ }
+    ensures makes { λ r. ⌜ Makes r (now (keys .exit)) (now (rows .exit)) (step (machineIn (now (keys .entry)) (now (rows .entry)) s) call) ⌝ }
+    ensures untouched { λ r. ⌜ (readsState call ≡ true → whole (stands (now (keys .entry)) (now (rows .entry)) (s .rest)) ≡ false → Untouched r s (now (keys .entry)) (now (rows .entry)) (now (keys .exit)) (now (rows .exit))) ⌝ }
+{
+    let rest = s.rest;
+    if reads_state(call) {
+        if !is_whole(keys, rest) {
+            return Made {
+                reply: reply_of(call_byte(call), Answer::Refused(Refusal::StateNotWhole)),
+                scalars: s,
+            };
+        }
+    }
+    make_call(keys, rows, s, call)
 }
