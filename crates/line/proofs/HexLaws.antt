@@ -1,25 +1,79 @@
--- What is written is read back: bytes from their digits, and the fields of an answer from its line.
+-- Laws of hex digits: what a character that is a digit stands for, how many bytes there are, and the sum of bytes.
 -- Assumes nothing.
-use Prim.Native.Nat.{ℕ, _+_, _-_, _*_, _/_, _%_, _^_, _<_, _≤_}
+use Prim.Native.Nat.{ℕ, _+_, _-_, _*_, _/_, _%_, _<_, _≤_}
 use native.Mathlib.Omega.{arith}
-use native.Mathlib.Nat.{div-div-eq-div-mul}
+use native.Mathlib.Numerals.{add-one}
 use mathlib.Core.Path.{_≡_, refl, ap, _∙_}
 use mathlib.Core.Bool.{Bool, true, false, _&&_}
 use mathlib.Core.List.{List, [], _∷_, _++_}
-use lib.Dec.{ltb, eqb}
-use lib.ListN.{length}
-use borrow.Author.Tests.{ltb-true, ltb-false, lt-ltb, le-ltb}
+use mathlib.Core.Logic.{_⊎_, ⊎-elim, inl, inr}
+use lib.Dec.{leb, ltb}
+use lib.ListN.{length, getD, drop}
+use lib.Seq.{drop-cons}
+use borrow.Author.Tests.{leb-true, le-leb, lt-leb, ltb-true, ltb-false, lt-ltb, le-ltb}
 use Rattle.seq.specs.Lists.{all}
-use Rattle.line.specs.declared.Reply.{Reply}
-use Rattle.line.specs.Hex.{isDigit, isHex, digitValue, digitOf, bytesOf, digitsOf, sum8, checkByte, word}
-use Rattle.line.specs.HexLaws.{both, low-digit, high-digit, each-digit, digit-fits, check-sum}
-use Rattle.line.specs.Calls.{byteAt, wordAt}
-use Rattle.line.specs.Answers.{replyBytes, answerDigits}
+use Rattle.line.specs.Hex.{isDigit, digitValue, digitOf, bytesOf, digitsOf, sum8, checkByte}
+use Rattle.line.specs.Frame.{AreBytes}
 
--- Numbers that a byte holds.
-unfoldable pub AreBytes : List ℕ → Type 0
-AreBytes [] = Unit {0}
-AreBytes (b ∷ bs) = (b < 256) × AreBytes bs
+-- Two tests joined.
+pub both : (a b : Bool) → (a && b) ≡ true → (a ≡ true) × (b ≡ true)
+both true b e = (refl, e)
+both false b e = absurd (let z : _≡_ {A = ℕ} 0 1 = cc in omega arith)
+
+-- Digits are two stretches of characters.
+pub low-digit : (c : ℕ) → 48 ≤ c → c ≤ 57 → (isDigit c ≡ true) × (digitValue c ≡ c - 48)
+low-digit c h k = (simp (le-leb 48 c h, le-leb c 57 k), simp (le-leb c 57 k))
+
+pub high-digit : (c : ℕ) → 97 ≤ c → c ≤ 102 → (isDigit c ≡ true) × (digitValue c ≡ c - 87)
+high-digit c h k =
+    let a : 57 < c = omega arith in
+    let b : 48 ≤ c = omega arith in
+    (simp (le-leb 48 c b, lt-leb c 57 a, le-leb 97 c h, le-leb c 102 k), simp (lt-leb c 57 a))
+
+pub digit-where : (c : ℕ) → isDigit c ≡ true → ((48 ≤ c) × (c ≤ 57)) ⊎ ((97 ≤ c) × (c ≤ 102))
+digit-where c e = by-first (leb 48 c && leb c 57) refl
+  where
+    by-first : (b : Bool) → (leb 48 c && leb c 57) ≡ b → ((48 ≤ c) × (c ≤ 57)) ⊎ ((97 ≤ c) × (c ≤ 102))
+    by-first true f = let w = both (leb 48 c) (leb c 57) f in inl (leb-true 48 c (w .0), leb-true c 57 (w .1))
+    by-first false f = let w = both (leb 97 c) (leb c 102) (simp f at e) in inr (leb-true 97 c (w .0), leb-true c 102 (w .1))
+
+-- What holds in both stretches, of a digit and its value, holds of every digit.
+pub each-digit : (P : ℕ → ℕ → Type 0) → ((c : ℕ) → 48 ≤ c → c ≤ 57 → P c (c - 48)) → ((c : ℕ) → 97 ≤ c → c ≤ 102 → P c (c - 87)) → (c : ℕ) → isDigit c ≡ true → P c (digitValue c)
+each-digit P f g c e =
+    ⊎-elim
+    (λ (w : (48 ≤ c) × (c ≤ 57)). rw (low-digit c (w .0) (w .1) .1) (f c (w .0) (w .1)))
+    (λ (w : (97 ≤ c) × (c ≤ 102)). rw (high-digit c (w .0) (w .1) .1) (g c (w .0) (w .1)))
+    (digit-where c e)
+
+pub digit-fits : (c : ℕ) → isDigit c ≡ true → digitValue c < 16
+digit-fits = each-digit (λ (c v : ℕ). v < 16) (λ c h k. omega arith) (λ c h k. omega arith)
+
+-- A digit's value without a test.
+pub digit-halves : (c : ℕ) → isDigit c ≡ true → c % 16 + 9 * (c / 64) ≡ digitValue c
+digit-halves = each-digit (λ (c v : ℕ). c % 16 + 9 * (c / 64) ≡ v) (λ c h k. omega arith) (λ c h k. omega arith)
+
+pub sum8-fits : (bs : List ℕ) → sum8 bs < 256
+unfolding sum8
+sum8-fits [] = omega arith
+sum8-fits (b ∷ bs) = omega arith
+
+pub sum8-step : (bs : List ℕ) (i : ℕ) → i < length bs → sum8 (drop i bs) ≡ (getD bs i 0 + sum8 (drop (i + 1) bs)) % 256
+unfolding sum8
+sum8-step bs i h = rw (add-one, drop-cons bs i 0)
+
+pub sum8-append : (bs cs : List ℕ) → sum8 (bs ++ cs) ≡ (sum8 bs + sum8 cs) % 256
+unfolding sum8
+sum8-append [] cs = omega (arith, sum8-fits cs)
+sum8-append (b ∷ bs) cs = let e = sum8-append bs cs in omega arith
+
+pub sum8-zero : (bs : List ℕ) → sum8 (bs ++ (0 ∷ [])) ≡ sum8 bs
+unfolding sum8
+sum8-zero bs = omega (arith, sum8-append bs (0 ∷ []), sum8-fits bs)
+
+-- The check byte brings the sum to zero.
+pub check-sum : (bs : List ℕ) → sum8 (bs ++ (checkByte bs ∷ [])) ≡ 0
+unfolding sum8
+check-sum bs = omega (arith, sum8-append bs (checkByte bs ∷ []), sum8-fits bs)
 
 -- The digit of a value stands for it.
 pub shown : (n : ℕ) → n < 16 → (isDigit (digitOf n) ≡ true) × (digitValue (digitOf n) ≡ n)
@@ -91,56 +145,3 @@ hex-back (h ∷ l ∷ cs) e f =
     ∙ ap (λ (x : ℕ). x ∷ digitOf (digitValue l) ∷ digitsOf (bytesOf cs)) (digit-back h (p .0))
     ∙ ap (λ (x : ℕ). h ∷ x ∷ digitsOf (bytesOf cs)) (digit-back l (q .0))
     ∙ ap (λ (t : List ℕ). h ∷ l ∷ t) rest
-
--- The four bytes of a number stand for it.
-unfolded : (n a b c : ℕ) → n / 256 ≡ a → a / 256 ≡ b → b / 256 ≡ c → c < 256 → word (c % 256) (b % 256) (a % 256) (n % 256) ≡ n
-unfolded n a b c e f g h =
-    let p : c % 256 * 256 + b % 256 ≡ b = omega arith in
-    let q : b * 256 + a % 256 ≡ a = omega arith in
-    let r : a * 256 + n % 256 ≡ n = omega arith in
-    rw (p, q, r)
-
-pub word-back : (n : ℕ) → n < 2 ^ 32 → word (n / 16777216 % 256) (n / 65536 % 256) (n / 256 % 256) (n % 256) ≡ n
-word-back n h =
-    unfolded n (n / 256) (n / 65536) (n / 16777216) refl (div-div-eq-div-mul n 256 256) (div-div-eq-div-mul n 65536 256) (omega arith)
-
--- The fields of an answer fit their widths.
-pub record Fit (r : Reply) : Type 0 where
-  pub call : r .call < 256
-  pub status : r .status < 256
-  pub buf : r .buf < 256
-  pub value : r .value < 2 ^ 32
-
--- What a reader of an answer's digits finds: hex pairs, eight bytes that sum to zero, and in them the fields.
-pub record ReadBack (r : Reply) : Type 0 where
-  pub hex : isHex (answerDigits r) ≡ true
-  pub size : length (bytesOf (answerDigits r)) ≡ 8
-  pub sum : sum8 (bytesOf (answerDigits r)) ≡ 0
-  pub call : byteAt (bytesOf (answerDigits r)) 0 ≡ r .call
-  pub status : byteAt (bytesOf (answerDigits r)) 1 ≡ r .status
-  pub buf : byteAt (bytesOf (answerDigits r)) 2 ≡ r .buf
-  pub value : wordAt (bytesOf (answerDigits r)) 3 4 5 6 ≡ r .value
-
-pub reply-bytes : (r : Reply) → Fit r → AreBytes (replyBytes r ++ (checkByte (replyBytes r) ∷ []))
-unfolding AreBytes
-reply-bytes r f =
-    let call = f .call in
-    let status = f .status in
-    let buf = f .buf in
-    (call, (status, (buf, (omega arith, (omega arith, (omega arith, (omega arith, (omega arith, tt))))))))
-
-pub answer-back : (r : Reply) → Fit r → ReadBack r
-unfolding answerDigits
-answer-back r f =
-    let bs = replyBytes r ++ (checkByte (replyBytes r) ∷ []) in
-    let k = reply-bytes r f in
-    let e : bytesOf (digitsOf bs) ≡ bs = digits-back bs k in
-    record {
-      hex = ap (λ (b : Bool). b && eqb (length (digitsOf bs) % 2) 0) (digits-hex bs k) ∙ ap (λ (n : ℕ). eqb (n % 2) 0) (digits-length bs);
-      size = ap length e;
-      sum = ap sum8 e ∙ check-sum (replyBytes r);
-      call = ap (λ (l : List ℕ). byteAt l 0) e;
-      status = ap (λ (l : List ℕ). byteAt l 1) e;
-      buf = ap (λ (l : List ℕ). byteAt l 2) e;
-      value = ap (λ (l : List ℕ). wordAt l 3 4 5 6) e ∙ word-back (r .value) (f .value);
-    }
