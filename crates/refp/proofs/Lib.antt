@@ -1,5 +1,5 @@
-pub mod Insertion
-pub mod Walk
-pub mod OneList
-pub mod Deciding
-pub mod Filling
+pub mod Entries
+pub mod Entering
+pub mod Both
+pub mod Settling
+pub mod Coming
