@@ -3,3 +3,6 @@ pub mod Entering
 pub mod Both
 pub mod Settling
 pub mod Coming
+pub mod Written
+pub mod ListLaws
+pub mod CopyLaws

@@ -1,3 +1,4 @@
 pub mod Lists
 pub mod Copy
 pub mod Running
+pub mod Claims
