@@ -11,7 +11,7 @@ use keys::SLOTS;
 pub const LAST: usize = SLOTS - 1;
 
 // The key at `pos` goes to the last slot, and those above slide down one (the Rust's picman_move_pic).
-pub fn move_last(keys: &mut [u64; SLOTS], pos: usize)
+pub fn move_last(keys: &mut [u64], pos: usize)
     requires { ⌜ (length (now keys) ≡ slots) × (pos < slots) ⌝ }
     ensures { λ _. ⌜ now (keys .exit) ≡ moveTo 0 pos lastSlot (now (keys .entry)) ⌝ }
 {
@@ -25,7 +25,7 @@ pub fn move_last(keys: &mut [u64; SLOTS], pos: usize)
 }
 
 // The key at `pos` is taken out: those above slide down one, and the last slot empties (picman_remove_pic_from_pb).
-pub fn remove_key(keys: &mut [u64; SLOTS], pos: usize)
+pub fn remove_key(keys: &mut [u64], pos: usize)
     requires { ⌜ (length (now keys) ≡ slots) × (pos < slots) ⌝ }
     ensures { λ _. ⌜ now (keys .exit) ≡ removeAt 0 pos (now (keys .entry)) ⌝ }
 {
@@ -33,7 +33,7 @@ pub fn remove_key(keys: &mut [u64; SLOTS], pos: usize)
     move_last(keys, pos);
 }
 
-pub fn copy_keys(from: &[u64; SLOTS], to: &mut [u64; SLOTS])
+pub fn copy_keys(from: &[u64], to: &mut [u64])
     requires { ⌜ (length (now from) ≡ slots) × (length (now to) ≡ slots) ⌝ }
     ensures { λ _. ⌜ now (to .exit) ≡ now (from .entry) ⌝ }
 {

@@ -13,7 +13,7 @@ use keys::key::is_marked;
 use keys::key::is_present;
 
 // The lowest slot whose picture is neither marked nor wanted for output; 27 where none is (picman_get_empty_pic_from_list).
-pub fn lowest_idle(keys: &[u64; SLOTS]) -> usize
+pub fn lowest_idle(keys: &[u64]) -> usize
     requires { ⌜ length (now keys) ≡ slots ⌝ }
     ensures { λ r. ⌜ r ≡ lowest keyIdle (now (keys .entry)) ⌝ }
 {
@@ -28,7 +28,7 @@ pub fn lowest_idle(keys: &[u64; SLOTS]) -> usize
 }
 
 // The highest empty slot; 0 where none is empty.
-pub fn highest_empty(keys: &[u64; SLOTS]) -> usize
+pub fn highest_empty(keys: &[u64]) -> usize
     requires { ⌜ length (now keys) ≡ slots ⌝ }
     ensures { λ r. ⌜ r ≡ highest keyEmpty (now (keys .entry)) ⌝ }
 {
@@ -42,7 +42,7 @@ pub fn highest_empty(keys: &[u64; SLOTS]) -> usize
     0
 }
 
-pub fn count_marked(keys: &[u64; SLOTS]) -> u8
+pub fn count_marked(keys: &[u64]) -> u8
     requires { ⌜ length (now keys) ≡ slots ⌝ }
     ensures { λ r. ⌜ r ≡ count keyMarked (now (keys .entry)) ⌝ }
 {
@@ -59,7 +59,7 @@ pub fn count_marked(keys: &[u64; SLOTS]) -> u8
 const BUFFERS: usize = 32;
 
 // Of each buffer number, whether a slot holds it.
-fn held_buffers(keys: &[u64; SLOTS]) -> [bool; BUFFERS]
+fn held_buffers(keys: &[u64]) -> [bool; BUFFERS]
     requires { ⌜ length (now keys) ≡ slots ⌝ }
     ensures { λ r. ⌜ Held (keyBuffers (now (keys .entry))) r ⌝ }
 {
@@ -89,7 +89,7 @@ fn lowest_free(held: &[bool; BUFFERS]) -> usize
 }
 
 // The smallest buffer number that no slot holds.
-pub fn free_buffer(keys: &[u64; SLOTS]) -> usize
+pub fn free_buffer(keys: &[u64]) -> usize
     requires { ⌜ length (now keys) ≡ slots ⌝ }
     ensures { λ r. ⌜ r ≡ keyFree (now (keys .entry)) ⌝ }
 {

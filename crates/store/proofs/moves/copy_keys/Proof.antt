@@ -22,14 +22,14 @@ loop-holds c = (omega arith, c .pre .0, c .pre .1, refl)
 mul-to : tie.Need-mul-to Inv-loop μ-loop
 mul-to c = search needs
 
-element-copy-out-to : tie.Need-element-copy-out-to Inv-loop μ-loop
-element-copy-out-to c = search needs
+shared-slice-read-to : tie.Need-shared-slice-read-to Inv-loop μ-loop
+shared-slice-read-to c = search needs
 
 mul-to-2 : tie.Need-mul-to-2 Inv-loop μ-loop
 mul-to-2 c = search needs
 
-element-write-to : tie.Need-element-write-to Inv-loop μ-loop
-element-write-to c = search needs
+slice-write-to : tie.Need-slice-write-to Inv-loop μ-loop
+slice-write-to c = search needs
 
 add-i : tie.Need-add-i Inv-loop μ-loop
 add-i c = search needs
@@ -42,6 +42,9 @@ loop-again c =
     let l = c .before .before .loop in
     let a = c .before .before .before .args in
     (omega arith, l .inv .1, simp length-set (l .inv .2), copy-turn 0 (a .from .now) (l .to) (l .i) (omega arith) (omega arith) (l .inv .3))
+
+same-length : tie.Need-same-length Inv-loop μ-loop
+same-length c = search needs
 
 returns : tie.Need-returns Inv-loop μ-loop
 returns c =
@@ -57,10 +60,11 @@ copy-keys-spec =
     μ-loop
     loop-holds
     mul-to
-    element-copy-out-to
+    shared-slice-read-to
     mul-to-2
-    element-write-to
+    slice-write-to
     add-i
     loop-less
     loop-again
+    same-length
     returns)

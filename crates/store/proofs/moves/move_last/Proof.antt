@@ -21,8 +21,8 @@ abbrev μ-loop : tie.MeasureT-loop
 mul-moved : tie.Need-mul-moved Inv-loop μ-loop
 mul-moved c = search needs
 
-element-copy-out-moved : tie.Need-element-copy-out-moved Inv-loop μ-loop
-element-copy-out-moved c = search needs
+slice-read-moved : tie.Need-slice-read-moved Inv-loop μ-loop
+slice-read-moved c = search needs
 
 loop-holds : tie.Need-loop-holds Inv-loop μ-loop
 loop-holds c = (c .before .pre .0, omega (arith, c .before .pre .1), ap (moveTo 0 _ 26) (set-getD (c .before .args .keys .now) (c .before .args .pos) 0))
@@ -33,14 +33,14 @@ add-keys c = search needs
 mul-keys : tie.Need-mul-keys Inv-loop μ-loop
 mul-keys c = search needs
 
-element-copy-out-keys : tie.Need-element-copy-out-keys Inv-loop μ-loop
-element-copy-out-keys c = search needs
+slice-read-keys : tie.Need-slice-read-keys Inv-loop μ-loop
+slice-read-keys c = search needs
 
 mul-keys-2 : tie.Need-mul-keys-2 Inv-loop μ-loop
 mul-keys-2 c = search needs
 
-element-write-keys : tie.Need-element-write-keys Inv-loop μ-loop
-element-write-keys c = search needs
+slice-write-keys : tie.Need-slice-write-keys Inv-loop μ-loop
+slice-write-keys c = search needs
 
 add-i : tie.Need-add-i Inv-loop μ-loop
 add-i c = search needs
@@ -51,14 +51,16 @@ loop-less c = search needs
 loop-again : tie.Need-loop-again Inv-loop μ-loop
 loop-again c =
     let l = c .before .before .loop in
-    let m = c .before .before .before in
-    let a = m .before .args in
+    let a = c .before .before .before .before .args in
     let h : length (l .keys) ≡ 27 = l .inv .0 in
     let step = move-step 0 (getD (a .keys .now) (a .pos) 0) (l .i) 26 (l .keys) (omega arith) (omega arith) in
     (simp length-set h, omega arith, rw add-one (step ∙ l .inv .2))
 
-element-write-keys-2 : tie.Need-element-write-keys-2 Inv-loop μ-loop
-element-write-keys-2 c = search needs
+slice-write-keys-2 : tie.Need-slice-write-keys-2 Inv-loop μ-loop
+slice-write-keys-2 c = search needs
+
+same-length : tie.Need-same-length Inv-loop μ-loop
+same-length c = let l = c .before .loop in length-set (l .keys) 26 _ ∙ l .inv .0 ∙ sym (c .before .before .before .pre .0)
 
 returns : tie.Need-returns Inv-loop μ-loop
 returns c =
@@ -76,15 +78,16 @@ move-last-spec =
     Inv-loop
     μ-loop
     mul-moved
-    element-copy-out-moved
+    slice-read-moved
     loop-holds
     add-keys
     mul-keys
-    element-copy-out-keys
+    slice-read-keys
     mul-keys-2
-    element-write-keys
+    slice-write-keys
     add-i
     loop-less
     loop-again
-    element-write-keys-2
+    slice-write-keys-2
+    same-length
     returns)

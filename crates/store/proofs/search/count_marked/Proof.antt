@@ -23,8 +23,8 @@ loop-holds c = search needs
 mul-is-marked : tie.Need-mul-is-marked Inv-loop μ-loop
 mul-is-marked c = search needs
 
-element-copy-out-is-marked : tie.Need-element-copy-out-is-marked Inv-loop μ-loop
-element-copy-out-is-marked c = search needs
+shared-slice-read-is-marked : tie.Need-shared-slice-read-is-marked Inv-loop μ-loop
+shared-slice-read-is-marked c = search needs
 
 is-marked-requires : tie.Need-is-marked-requires Inv-loop μ-loop
 is-marked-requires c κs = search needs
@@ -35,7 +35,7 @@ cast-marked c = tt
 add-marked : tie.Need-add-marked Inv-loop μ-loop
 add-marked c =
     let l = c .before .before .before .loop in
-    let a = c .before .before .before .before .args in
+    let a = c .before .before .before .before .before .args in
     let s = counted 0 keyMarked (a .keys .now) (l .i) (l .marked) (omega arith) (l .inv .2) in
     let e = ap boolByte (c .is-marked .ensures) in
     omega arith
@@ -49,14 +49,14 @@ loop-less c = search needs
 loop-again : tie.Need-loop-again Inv-loop μ-loop
 loop-again c =
     let l = c .before .before .before .loop in
-    let a = c .before .before .before .before .args in
+    let a = c .before .before .before .before .before .args in
     let s = counted 0 keyMarked (a .keys .now) (l .i) (l .marked) (omega arith) (l .inv .2) in
     (omega arith, l .inv .1, rw (c .is-marked .ensures) (s .again))
 
 returns : tie.Need-returns Inv-loop μ-loop
 returns c =
     let l = c .before .loop in
-    omega (arith, count-end 0 keyMarked (c .before .before .args .keys .now) (l .i) (omega arith))
+    omega (arith, count-end 0 keyMarked (c .before .before .before .args .keys .now) (l .i) (omega arith))
 
 pub count-marked-spec : {M : Type 1} → statement M
 count-marked-spec =
@@ -66,7 +66,7 @@ count-marked-spec =
     μ-loop
     loop-holds
     mul-is-marked
-    element-copy-out-is-marked
+    shared-slice-read-is-marked
     is-marked-requires
     cast-marked
     add-marked

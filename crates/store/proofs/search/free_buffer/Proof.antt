@@ -20,12 +20,11 @@ lowest-free-requires c κs = search needs
 
 returns : tie.Need-returns
 returns c =
-    let at-flags = c .before .before in
-    let a = at-flags .before .args in
-    let n : length (a .keys .now) ≡ 27 = at-flags .before .pre in
+    let a = c .before .before .before .before .args in
+    let n : length (a .keys .now) ≡ 27 = c .before .before .before .before .pre in
     let few : length (keyBuffers (a .keys .now)) ≤ 27 =
     omega (arith, length-map (select keyPresent (a .keys .now)) keyBuffer, length-select keyPresent (a .keys .now), count-length keyPresent (a .keys .now)) in
-    c .lowest-free .ensures ∙ lowest-free (keyBuffers (a .keys .now)) _ (at-flags .held-buffers .ensures) (omega arith)
+    c .lowest-free .ensures ∙ lowest-free (keyBuffers (a .keys .now)) _ (c .before .before .held-buffers .ensures) (omega arith)
 
 pub free-buffer-spec : {M : Type 1} → statement M
 free-buffer-spec = tie.close (tie.spec held-buffers-requires lowest-free-requires returns)

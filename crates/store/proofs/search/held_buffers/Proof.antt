@@ -20,13 +20,13 @@ abbrev μ-loop : tie.MeasureT-loop
 
 loop-holds : tie.Need-loop-holds Inv-loop μ-loop
 loop-holds c =
-    (omega arith, c .pre, refl, λ b h. ap (λ (t : Bool). t || any (eqb b) (keyBuffers (c .args .keys .now))) (getD-replicate 32 b false false h))
+    (omega arith, c .before .pre, refl, λ b h. ap (λ (t : Bool). t || any (eqb b) (keyBuffers (c .before .args .keys .now))) (getD-replicate 32 b false false h))
 
 mul-k : tie.Need-mul-k Inv-loop μ-loop
 mul-k c = search needs
 
-element-copy-out-k : tie.Need-element-copy-out-k Inv-loop μ-loop
-element-copy-out-k c = search needs
+shared-slice-read-k : tie.Need-shared-slice-read-k Inv-loop μ-loop
+shared-slice-read-k c = search needs
 
 buffer-of-requires : tie.Need-buffer-of-requires Inv-loop μ-loop
 buffer-of-requires c κs = search needs
@@ -61,7 +61,7 @@ unfolding any select
 returns c =
     record {
       size = c .before .loop .inv .2;
-      flag = λ b h. sym (or-false _) ∙ (rw (drop-of-length-le (c .before .before .args .keys .now) {i = c .before .loop .i} (omega arith)) at (c .before .loop .inv .3 b h));
+      flag = λ b h. sym (or-false _) ∙ (rw (drop-of-length-le (c .before .before .before .args .keys .now) {i = c .before .loop .i} (omega arith)) at (c .before .loop .inv .3 b h));
     }
 
 pub held-buffers-spec : {M : Type 1} → statement M
@@ -72,7 +72,7 @@ held-buffers-spec =
     μ-loop
     loop-holds
     mul-k
-    element-copy-out-k
+    shared-slice-read-k
     buffer-of-requires
     array-read-held
     is-present-requires

@@ -22,8 +22,8 @@ loop-holds c = search needs
 mul-is-idle : tie.Need-mul-is-idle Inv-loop μ-loop
 mul-is-idle c = search needs
 
-element-copy-out-is-idle : tie.Need-element-copy-out-is-idle Inv-loop μ-loop
-element-copy-out-is-idle c = search needs
+shared-slice-read-is-idle : tie.Need-shared-slice-read-is-idle Inv-loop μ-loop
+shared-slice-read-is-idle c = search needs
 
 is-idle-requires : tie.Need-is-idle-requires Inv-loop μ-loop
 is-idle-requires c κs = search needs
@@ -31,7 +31,7 @@ is-idle-requires c κs = search needs
 returns : tie.Need-returns Inv-loop μ-loop
 returns c =
     let l = c .before .before .before .before .loop in
-    let a = c .before .before .before .before .before .args in
+    let a = c .before .before .before .before .before .before .args in
     sym (lowest-hit 0 keyIdle (a .keys .now) (l .i) (omega arith) (sym (c .before .is-idle .ensures) ∙ c .if1 .taken)) ∙ l .inv .2
 
 add-i : tie.Need-add-i Inv-loop μ-loop
@@ -43,13 +43,13 @@ loop-less c = search needs
 loop-again : tie.Need-loop-again Inv-loop μ-loop
 loop-again c =
     let l = c .before .before .before .before .loop in
-    let a = c .before .before .before .before .before .args in
+    let a = c .before .before .before .before .before .before .args in
     (omega arith, l .inv .1, lowest-miss 0 keyIdle (a .keys .now) (l .i) (omega arith) (sym (c .before .is-idle .ensures) ∙ c .if1 .left) ∙ l .inv .2)
 
 returns-2 : tie.Need-returns-2 Inv-loop μ-loop
 returns-2 c =
     let l = c .before .loop in
-    sym (lowest-end 0 keyIdle (c .before .before .args .keys .now) (l .i) (omega arith)) ∙ l .inv .2
+    sym (lowest-end 0 keyIdle (c .before .before .before .args .keys .now) (l .i) (omega arith)) ∙ l .inv .2
 
 pub lowest-idle-spec : {M : Type 1} → statement M
 lowest-idle-spec =
@@ -59,7 +59,7 @@ lowest-idle-spec =
     μ-loop
     loop-holds
     mul-is-idle
-    element-copy-out-is-idle
+    shared-slice-read-is-idle
     is-idle-requires
     returns
     add-i
