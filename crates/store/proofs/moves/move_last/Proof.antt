@@ -1,7 +1,7 @@
 -- `store::moves::move_last` meets its contract. The loop holds the moved key in hand: put down at place i and moved on from there, it gives what
 -- the whole move gives from the start. Assumes nothing.
 use mathlib.Core.Path.{_≡_, sym, ap, _∙_}
-use Prim.Native.Nat.{ℕ, _≤_, _<_, _-_}
+use Prim.Native.Nat.{_≤_, _<_, _-_}
 use native.Mathlib.Numerals.{add-one}
 use native.Mathlib.Omega.{arith}
 use borrow.Author.Needs.{needs}

@@ -1,10 +1,10 @@
 -- `store::search::count_marked` meets its contract: what is counted so far, with what is left, is the count of all. Assumes nothing.
-use mathlib.Core.Path.{_≡_, sym, ap, _∙_}
+use mathlib.Core.Path.{_≡_, ap}
 use Prim.Native.Nat.{_≤_, _+_, _-_}
 use native.Mathlib.Omega.{arith}
 use borrow.Author.Needs.{needs}
 use mir.Val.{boolByte}
-use lib.ListN.{length, drop, getD}
+use lib.ListN.{length, drop}
 use Rattle.seq.specs.Lists.{count}
 use Rattle.seq.specs.Walks.{counted, count-end}
 use Rattle.keys.specs.Keys.{keyMarked}

@@ -1,22 +1,23 @@
 -- What marking brings about: at most 4 slots are marked afterwards, and none of a layer above 0; after a flush none is.
 -- Assumes nothing.
-use Prim.Native.Nat.{ℕ, zero, suc, _+_, _-_, _≤_, _<_}
+use Prim.Native.Nat.{ℕ, zero, suc, _+_, _≤_}
 use native.Mathlib.Omega.{arith}
-use mathlib.Core.Path.{_≡_, refl, sym, ap, _∙_}
+use mathlib.Core.Path.{_≡_, refl, _∙_}
 use mathlib.Core.Bool.{Bool, true, false, cond, not, _&&_, _||_}
 use mathlib.Core.Bool as Bool
-use mathlib.Core.List.{List, [], _∷_, _++_, map}
-use lib.Dec.{ltb, eqb}
+use mathlib.Core.List.{List, [], _∷_, map}
+use lib.Dec.{ltb}
 use lib.ListN.{length}
 use Rattle.seq.specs.Lists.{all, count, selectAt}
-use Rattle.seq.specs.Counts.{count-yes, count-not}
+use Rattle.seq.specs.Counts.{count-not}
 use Rattle.seq.specs.All.{and-both, all-append}
 use Rattle.seq.specs.Partition.{others}
 use Rattle.def.specs.declared.Slot.{Slot}
 use Rattle.def.specs.State.{slots, isMarked, unmarked}
 use Rattle.marking.specs.Marking.{mostMarked, outdated, sweep, excess, unmarkFirst, noteFirst, lastWalk, slide, marked}
-use Rattle.marking.specs.Steps.{unmark-none}
-use Rattle.marking.specs.Kept.{sweep-length, slide-reordered, slide-kept}
+use Rattle.marking.specs.Claims.{MarkedAtMost, MarkedLayer, FlushCount, upperReference}
+use Rattle.marking.proofs.Steps.{unmark-none}
+use Rattle.marking.proofs.Kept.{sweep-length, slide-reordered, slide-kept}
 
 unmarked-not : (s : Slot) → isMarked (unmarked s) ≡ false
 unmarked-not s = pick (s .present)
@@ -25,7 +26,7 @@ unmarked-not s = pick (s .present)
     pick true = refl
     pick false = refl
 
-pub flush-count : (xs : List Slot) → count isMarked (map unmarked xs) ≡ 0
+pub flush-count : FlushCount
 unfolding count
 flush-count [] = refl
 flush-count (s ∷ ss) = count-not isMarked (unmarked s) (map unmarked ss) (unmarked-not s) ∙ flush-count ss
@@ -53,7 +54,7 @@ slide-count xs e =
     let u = unmark-count (excess xs) xs (omega arith) in
     omega arith
 
-pub marked-at-most : (gap : ℕ) (xs : List Slot) → length xs ≡ slots → count isMarked (marked gap xs) ≤ mostMarked
+pub marked-at-most : MarkedAtMost
 unfolding marked excess
 marked-at-most gap xs e = let c = slide-count (sweep (outdated gap) xs) (sweep-length (outdated gap) xs ∙ e) in omega arith
 
@@ -90,15 +91,11 @@ module _ (picks : ℕ → Slot → Bool) (q : Slot → Bool) (kept : (i : ℕ) (
   unfolding sweep
   sweep-all xs = all-append q (selectAt (others picks) 0 xs) _ ∙ and-both (front-all 0 xs) (back-all (selectAt picks 0 xs))
 
--- marked, and of a layer above 0
-abbrev pub upperReference : Slot → Bool
-upperReference s = isMarked s && ltb 0 (s .pic .«temporal_id»)
-
 upper-gone : (s : Slot) → not (upperReference (unmarked s)) ≡ true
 upper-gone s = rw unmarked-not
 
 -- Marking leaves no reference of a layer above 0.
-pub marked-layer : (gap : ℕ) (xs : List Slot) → length xs ≡ slots → all (λ s. not (upperReference s)) (marked gap xs) ≡ true
+pub marked-layer : MarkedLayer
 unfolding marked
 marked-layer gap xs e =
     slide-kept (sweep (outdated gap) xs) (sweep-length (outdated gap) xs ∙ e) .still

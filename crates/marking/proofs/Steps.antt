@@ -13,7 +13,6 @@ use lib.ListN.{length, take, drop, getD, set, length-set, drop-of-length-le}
 use lib.Seq.{take-all, take-suc, take-suc-set, drop-cons, drop-set-lt, append-snoc}
 use borrow.Author.Tests.{lt-ltb}
 use Rattle.seq.specs.Lists.{moveTo}
-use Rattle.seq.specs.All.{and-left, and-right}
 use Rattle.def.specs.declared.Slot.{Slot}
 use Rattle.def.specs.State.{noSlot, isMarked, unmarked}
 use Rattle.marking.specs.Marking.{lastSlot, unmarkFirst, noteFirst, lastWalk}
