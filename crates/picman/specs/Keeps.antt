@@ -1,15 +1,14 @@
 -- A whole state stays whole when its slots are marked anew, by marking or by the flush; and no picture is lost: each buffer number is held as often.
 -- Assumes nothing.
-use Prim.Native.Nat.{ℕ, _+_, _≤_, _<_}
+use Prim.Native.Nat.{ℕ, _+_, _<_}
 use mathlib.Core.Path.{_≡_, refl, sym, ap, _∙_}
 use mathlib.Core.Bool.{Bool, true, false, cond, not, _&&_, _||_}
 use mathlib.Core.Bool as Bool
 use mathlib.Core.List.{List, [], _∷_, _++_, map, List·Memᴰ}
-use native.Mathlib.Omega.{arith}
-use lib.Dec.{leb, ltb, eqb}
+use lib.Dec.{ltb, eqb}
 use lib.ListN.{length}
 use borrow.Author.Tests.{eq-eqb, eqb-true, lt-ltb}
-use Rattle.seq.specs.Lists.{all, count, select, allDiffer, Distinct}
+use Rattle.seq.specs.Lists.{all, count, Distinct}
 use Rattle.seq.specs.Often.{SameNumbers}
 use Rattle.seq.specs.Smallest.{distinct-differ}
 use Rattle.seq.specs.All.{and-left, and-right, and-both, all-append, all-holds, count-append}
@@ -18,9 +17,9 @@ use Rattle.def.specs.declared.EvcPm.{EvcPm}
 use Rattle.def.specs.declared.PutCall.{PutCall}
 use Rattle.def.specs.State.{slots, isMarked, unmarked, withStore}
 use Rattle.whole.specs.Whole.{whole, places, heldBuffers, isPresent, zeroIfEmpty, pocFits}
-use Rattle.whole.specs.Laws.{Whole, rule, whole-rules}
+use Rattle.whole.specs.Laws.{rule, whole-rules}
 use Rattle.whole.specs.Holding.{holds, buffers-passing, same-below, same-differ}
-use Rattle.marking.specs.Marking.{marked, marking, flush}
+use Rattle.marking.specs.Marking.{marking, flush}
 use Rattle.marking.specs.Kept.{Kept, kept-refl, kept-length, flush-kept, marked-kept}
 use Rattle.marking.specs.Limits.{flush-count}
 use Rattle.picman.specs.Put.{remarked}

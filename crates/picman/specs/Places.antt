@@ -2,15 +2,15 @@
 -- A place for it is always found: the slots hold at most 26 pictures while one is leased.
 -- Assumes nothing.
 use Prim.Native.Nat.{ℕ, _+_, _≤_, _<_}
-use mathlib.Core.Path.{_≡_, refl, sym, ap, _∙_}
-use mathlib.Core.Bool.{Bool, true, false, cond, not, _&&_, _||_}
+use mathlib.Core.Path.{_≡_, refl, ap, _∙_}
+use mathlib.Core.Bool.{Bool, true, false, cond, _&&_}
 use mathlib.Core.List.{List, [], _∷_, _++_}
 use native.Mathlib.Omega.{arith}
-use lib.Dec.{leb, ltb, eqb}
+use lib.Dec.{eqb}
 use lib.ListN.{length, getD, set}
-use borrow.Author.Tests.{eqb-true, le-leb, not-true}
+use borrow.Author.Tests.{le-leb, not-true}
 use mir.Val.{boolByte}
-use Rattle.seq.specs.Lists.{all, any, count, select, highest}
+use Rattle.seq.specs.Lists.{all, count, highest}
 use Rattle.seq.specs.All.{count-append}
 use Rattle.seq.specs.Lowest.{highest-passes}
 use Rattle.seq.specs.Often.{SameNumbers}
@@ -20,7 +20,7 @@ use Rattle.def.specs.declared.EvcPm.{EvcPm}
 use Rattle.def.specs.declared.PutCall.{PutCall}
 use Rattle.def.specs.State.{slots, highestPoc, emptySlot, noSlot, held, isMarked, isEmpty}
 use Rattle.whole.specs.Whole.{whole, places, heldBuffers, isPresent, zeroIfEmpty, pocFits}
-use Rattle.whole.specs.Laws.{Whole, rule, whole-rules, leased-occupied, leased-empty-slot, marked-occupied}
+use Rattle.whole.specs.Laws.{rule, whole-rules, leased-occupied, leased-empty-slot, marked-occupied}
 use Rattle.whole.specs.Holding.{holds, buffers-passing}
 use Rattle.picman.specs.Put.{taken, placeFor, slotTaken, placedAt}
 use Rattle.picman.specs.Keeps.{store-whole, all-places, slots-pass}

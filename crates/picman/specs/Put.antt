@@ -1,7 +1,7 @@
 -- Document 01, "Put" (`evc_picman_put_pic`): marking, then the leased picture goes into the store.
 -- Assumes nothing.
 use Prim.Native.Nat.{ℕ, _+_}
-use mathlib.Core.Bool.{Bool, true, cond, not, _&&_}
+use mathlib.Core.Bool.{Bool, cond, not, _&&_}
 use mathlib.Core.List.{List, _++_, map}
 use lib.Dec.{ltb, eqb}
 use lib.ListN.{getD, set, take, drop}

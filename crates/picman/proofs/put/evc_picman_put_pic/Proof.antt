@@ -5,7 +5,7 @@ use mathlib.Core.List.{List}
 use Prim.Native.Nat.{ℕ}
 use borrow.Author.Tests.{not-true, not-false}
 use Rattle.whole.specs.Whole.{whole}
-use Rattle.whole.specs.Laws.{Whole, whole-rules}
+use Rattle.whole.specs.Laws.{whole-rules}
 use Rattle.picman.specs.Put.{put, putListed}
 use borrow.Author.Needs.{needs}
 use Rattle.picman.proofs.put.evc_picman_put_pic.Statement.{statement}

@@ -1,7 +1,7 @@
 -- `picman::put::list_numbers` meets its contract. The loop: the first i numbers are the forward list's, the rest are those of before. Assumes nothing.
 use mathlib.Core.Path.{_≡_, ap, sym, _∙_, refl}
 use mathlib.Core.List.{List, map, _++_}
-use Prim.Native.Nat.{ℕ, _≤_, _-_, _+_, _<_}
+use Prim.Native.Nat.{ℕ, _≤_, _-_, _+_}
 use native.Mathlib.Omega.{arith}
 use lib.ListN.{length, take, drop, getD, set, length-map}
 use borrow.Author.Needs.{needs}

@@ -1,8 +1,8 @@
 -- `picman::put::put_whole` meets its contract: each return by the tests that lead to it. A whole state with a lease has an empty slot and room for one
 -- more picture, also after marking. Assumes nothing.
-use mathlib.Core.Path.{_≡_, refl, sym, ap, _∙_}
+use mathlib.Core.Path.{_≡_, sym, ap, _∙_}
 use mathlib.Core.Bool.{true, false}
-use Prim.Native.Nat.{ℕ, _≤_, _<_}
+use Prim.Native.Nat.{_≤_, _<_}
 use native.Mathlib.Omega.{arith}
 use lib.ListN.{length, length-map}
 use borrow.Author.Tests.{not-true, not-false}
