@@ -59,7 +59,7 @@ fn tally_key(t: Tally, key: u64) -> Tally
 }
 
 // Three keys a turn: the test of the loop is a good part of its time.
-fn tally_all(keys: &[u64; SLOTS]) -> Tally
+fn tally_all(keys: &[u64]) -> Tally
     requires { ⌜ length (now keys) ≡ slots ⌝ }
     ensures { λ r. ⌜ (r ≡ tallyAll noTally (now (keys .entry))) × Roomy r ⌝ }
 {
@@ -82,7 +82,7 @@ fn tally_all(keys: &[u64; SLOTS]) -> Tally
 }
 
 // One pass, over any bits. The lease counts among the buffer numbers and not among the slots.
-pub fn is_whole(keys: &[u64; SLOTS], rest: Rest) -> bool
+pub fn is_whole(keys: &[u64], rest: Rest) -> bool
     requires { ⌜ length (now keys) ≡ slots ⌝ }
     ensures { λ r. ⌜ ((rows : List ℕ) → r ≡ whole (stands (now (keys .entry)) rows rest)) ⌝ }
 {

@@ -15,13 +15,13 @@ abbrev μ-loop : tie.MeasureT-loop
 μ-loop keys t₀ i₀ t i = slots - i
 
 loop-holds : tie.Need-loop-holds Inv-loop μ-loop
-loop-holds c = (omega arith, refl, c .pre, passing-none _)
+loop-holds c = (omega arith, refl, c .before .pre, passing-none _)
 
 mul-tally-key : tie.Need-mul-tally-key Inv-loop μ-loop
 mul-tally-key c = omega arith
 
-element-copy-out-tally-key : tie.Need-element-copy-out-tally-key Inv-loop μ-loop
-element-copy-out-tally-key c = omega arith
+shared-slice-read-tally-key : tie.Need-shared-slice-read-tally-key Inv-loop μ-loop
+shared-slice-read-tally-key c = omega arith
 
 tally-key-requires : tie.Need-tally-key-requires Inv-loop μ-loop
 tally-key-requires c κs = let l = c .before .before .loop in passing-room _ (l .inv .3) (l .inv .0)
@@ -32,14 +32,14 @@ add-tally-key c = omega arith
 mul-tally-key-2 : tie.Need-mul-tally-key-2 Inv-loop μ-loop
 mul-tally-key-2 c = omega arith
 
-element-copy-out-tally-key-2 : tie.Need-element-copy-out-tally-key-2 Inv-loop μ-loop
-element-copy-out-tally-key-2 c = omega arith
+shared-slice-read-tally-key-2 : tie.Need-shared-slice-read-tally-key-2 Inv-loop μ-loop
+shared-slice-read-tally-key-2 c = omega arith
 
 -- the first key is passed, and the second
-first : (c : tie.After-tally-key Inv-loop μ-loop) → Passing (c .before .before .before .before .args .keys .now) (c .tally-key .result) (c .before .before .before .loop .i + 1)
+first : (c : tie.After-tally-key Inv-loop μ-loop) → Passing (c .before .before .before .before .before .args .keys .now) (c .tally-key .result) (c .before .before .before .loop .i + 1)
 first c = let l = c .before .before .before .loop in passing-turn _ _ _ (l .inv .3) (omega arith) (c .tally-key .ensures) refl
 
-second : (c : tie.After-tally-key2 Inv-loop μ-loop) → Passing (c .before .before .before .before .before .before .args .keys .now) (c .tally-key2 .result) (c .before .before .before .before .before .loop .i + 2)
+second : (c : tie.After-tally-key2 Inv-loop μ-loop) → Passing (c .before .before .before .before .before .before .before .args .keys .now) (c .tally-key2 .result) (c .before .before .before .before .before .loop .i + 2)
 second c = let l = c .before .before .before .before .before .loop in passing-turn _ _ _ (first (c .before .before)) (omega arith) (c .tally-key2 .ensures) (omega arith)
 
 tally-key-requires-2 : tie.Need-tally-key-requires-2 Inv-loop μ-loop
@@ -51,8 +51,8 @@ add-tally-key-2 c = omega arith
 mul-tally-key-3 : tie.Need-mul-tally-key-3 Inv-loop μ-loop
 mul-tally-key-3 c = omega arith
 
-element-copy-out-tally-key-3 : tie.Need-element-copy-out-tally-key-3 Inv-loop μ-loop
-element-copy-out-tally-key-3 c = omega arith
+shared-slice-read-tally-key-3 : tie.Need-shared-slice-read-tally-key-3 Inv-loop μ-loop
+shared-slice-read-tally-key-3 c = omega arith
 
 tally-key-requires-3 : tie.Need-tally-key-requires-3 Inv-loop μ-loop
 tally-key-requires-3 c κs = passing-room _ (second (c .before)) (omega arith)
@@ -80,15 +80,15 @@ tally-all-spec =
     μ-loop
     loop-holds
     mul-tally-key
-    element-copy-out-tally-key
+    shared-slice-read-tally-key
     tally-key-requires
     add-tally-key
     mul-tally-key-2
-    element-copy-out-tally-key-2
+    shared-slice-read-tally-key-2
     tally-key-requires-2
     add-tally-key-2
     mul-tally-key-3
-    element-copy-out-tally-key-3
+    shared-slice-read-tally-key-3
     tally-key-requires-3
     add-i
     loop-less
