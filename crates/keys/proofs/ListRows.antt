@@ -41,7 +41,8 @@ module _ (rows : List ℕ) (b : ℕ) (ns : List ℕ) (n : ℕ) (long : length ro
           rw (
             beyond (567 + j) (omega arith),
             beyond (609 + j) (omega arith),
-            row-other rows b ns n long (omega arith) few there (31 + j) (λ e. omega arith)) refl
+            row-other rows b ns n long (omega arith) few there (31 + j) (λ e. omega arith),
+          ) refl
 
 -- The forward list's first numbers are those of the row of its numbers.
 pub forward-numbers : (rows : List ℕ) (n : ℕ) → length rows ≡ rowsLength → n ≤ rowLength
