@@ -19,6 +19,7 @@ use lib.ListN.{length, getD, drop, drop-of-length-le}
 use Rattle.seq.specs.Numbers.{lt-or-ge}
 use Rattle.seq.specs.Walks.{drop-step}
 use Rattle.seq.specs.Lists.{all, any, count, select, allDiffer}
+use Rattle.def.specs.State.{slots}
 use Rattle.whole.specs.declared.Tally.{Tally}
 use Rattle.keys.specs.Keys.{keyPresent, keyMarked, keyRef, keyBuffer}
 use Rattle.whole.specs.Tallies.{Roomy, noTally, strayed, gathered, tallied, tallyAll}
@@ -238,39 +239,53 @@ gathered-all (k ∷ ks) t h = pick (keyPresent k) refl (gathered-all ks)
     pick true e below = picture t (tallyAll (gathered t k) ks) k ks e h (below (gathered t k) (let w = union-sum (t .set) (keyBuffer k) in omega arith))
     pick false e below = none t (tallyAll (strayed t k) ks) k ks e (below (strayed t k) h)
 
--- ---- the pass: room for each key that is left, and a step of it
+-- ---- the pass
 
-pub record Room (t : Tally) (i : ℕ) : Type 0 where
+-- The pass has come to place i: there is room in what was gathered, and with what is left it gives what all keys give.
+pub record Passing (keys : List ℕ) (t : Tally) (i : ℕ) : Type 0 where
   pub few : t .occupied ≤ i
   pub few-marked : t .marked ≤ i
   pub low-sum : t .sum ≤ 4294967296 * i
+  pub so-far : tallyAll t (drop i keys) ≡ tallyAll noTally keys
 
-pub room-start : Room noTally 0
-room-start = record { few = omega arith; few-marked = omega arith; low-sum = omega arith }
+module _ (keys : List ℕ) where
+  pub passing-none : Passing keys noTally 0
+  passing-none = record { few = omega arith; few-marked = omega arith; low-sum = omega arith; so-far = refl }
 
-pub room-turn : (t : Tally) (i k : ℕ) → Room t i → Room (tallied t k) (i + 1)
-room-turn t i k r = pick (keyPresent k)
-  where
-    low : 2 ^ keyBuffer k ≤ 2 ^ 32
-    low = pow-mono {i = keyBuffer k} {j = 32} (omega arith)
+  pub passing-room : {t : Tally} {i : ℕ} → Passing keys t i → i ≤ slots → Roomy t
+  passing-room p h =
+      let f = p .few in
+      let m = p .few-marked in
+      let s = p .low-sum in
+      record { few = omega arith; few-marked = omega arith; low-sum = omega arith }
 
-    pick : (p : Bool) → Room (cond p (gathered t k) (strayed t k)) (i + 1)
-    pick true = let l = low in let f = r .few in let m = r .few-marked in let s = r .low-sum in
-        record { few = omega arith; few-marked = omega arith; low-sum = omega arith }
-    pick false = let f = r .few in let m = r .few-marked in let s = r .low-sum in record { few = omega arith; few-marked = omega arith; low-sum = omega arith }
-
-pub room-roomy : (t : Tally) (i : ℕ) → Room t i → i ≤ 27 → Roomy t
-room-roomy t i r h = let f = r .few in let m = r .few-marked in let s = r .low-sum in
-    record { few = omega arith; few-marked = omega arith; low-sum = omega arith }
-
-module _ (t : Tally) (keys : List ℕ) (i : ℕ) where
-  pub tally-step : i < length keys → tallyAll (tallied t (getD keys i 0)) (drop (i + 1) keys) ≡ tallyAll t (drop i keys)
+  pub passing-turn : {t : Tally} {i : ℕ} (j : ℕ) (u : Tally) → Passing keys t i → i < length keys → u ≡ tallied t (getD keys i 0) → j ≡ i + 1 → Passing keys u j
   unfolding tallyAll
-  tally-step h = rw (drop-step 0 keys i h)
+  passing-turn {t} {i} j u p h e g = rw (e, g) (turn (keyPresent k) (rw (drop-step 0 keys i h) at (p .so-far)))
+    where
+      k : ℕ
+      k = getD keys i 0
 
-  pub tally-end : length keys ≤ i → tallyAll t (drop i keys) ≡ t
+      low : 2 ^ keyBuffer k ≤ 2 ^ 32
+      low = pow-mono {i = keyBuffer k} {j = 32} (omega arith)
+
+      turn : (b : Bool) → tallyAll (cond b (gathered t k) (strayed t k)) (drop (i + 1) keys) ≡ tallyAll noTally keys
+          → Passing keys (cond b (gathered t k) (strayed t k)) (i + 1)
+      turn true q =
+          let l = low in
+          let f = p .few in
+          let m = p .few-marked in
+          let s = p .low-sum in
+          record { few = omega arith; few-marked = omega arith; low-sum = omega arith; so-far = q }
+      turn false q =
+          let f = p .few in
+          let m = p .few-marked in
+          let s = p .low-sum in
+          record { few = omega arith; few-marked = omega arith; low-sum = omega arith; so-far = q }
+
+  pub passing-end : {t : Tally} {i : ℕ} → Passing keys t i → length keys ≤ i → t ≡ tallyAll noTally keys
   unfolding tallyAll
-  tally-end h = rw (drop-of-length-le keys h)
+  passing-end p h = rw (drop-of-length-le keys h) at (p .so-far)
 
 -- ---- a key, as the code goes
 

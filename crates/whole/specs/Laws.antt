@@ -60,7 +60,7 @@ six true true false d e f h = absurd (Bool.false≢true h)
 six true true true false e f h = absurd (Bool.false≢true h)
 six true true true true false f h = absurd (Bool.false≢true h)
 
-zero-from : (s : Slot) → zeroIfEmpty s ≡ true → s .present ≡ false → Zero s
+pub zero-from : (s : Slot) → zeroIfEmpty s ≡ true → s .present ≡ false → Zero s
 zero-from s e absent =
     let t =
     six (eqb (s .buf) 0) (eqb (s .pic .poc) 0) (not (s .pic .«is_ref»)) (not (s .pic .«need_for_out»)) (eqb (s .pic .«temporal_id») 0)

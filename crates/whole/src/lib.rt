@@ -58,7 +58,8 @@ fn tally_key(t: Tally, key: u64) -> Tally
     }
 }
 
-fn tally_all(keys: &[u64; SLOTS]) -> Tally
+// Three keys a turn: the test of the loop is a good part of its time.
+fn tally_all(keys: &[u64]) -> Tally
     requires { ⌜ length (now keys) ≡ slots ⌝ }
     ensures { λ r. ⌜ (r ≡ tallyAll noTally (now (keys .entry))) × Roomy r ⌝ }
 {
@@ -72,14 +73,16 @@ fn tally_all(keys: &[u64; SLOTS]) -> Tally
     };
     let mut i: usize = 0;
     while i < SLOTS {
-        t = tally_key(t, keys[i]);
-        i = i + 1;
+        let one = tally_key(t, keys[i]);
+        let two = tally_key(one, keys[i + 1]);
+        t = tally_key(two, keys[i + 2]);
+        i = i + 3;
     }
     t
 }
 
 // One pass, over any bits. The lease counts among the buffer numbers and not among the slots.
-pub fn is_whole(keys: &[u64; SLOTS], rest: Rest) -> bool
+pub fn is_whole(keys: &[u64], rest: Rest) -> bool
     requires { ⌜ length (now keys) ≡ slots ⌝ }
     ensures { λ r. ⌜ ((rows : List ℕ) → r ≡ whole (stands (now (keys .entry)) rows rest)) ⌝ }
 {

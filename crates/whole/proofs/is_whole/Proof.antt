@@ -21,7 +21,7 @@ returns c rows =
     let half = c .before .before .before .before .before .before in
     let with-lease = half .before .before .before .before .before .before in
     let at-slots = with-lease .before in
-    let s = at-slots .before in
+    let s = at-slots .before .before in
     whole-told (s .args .keys .now) rows (s .args .rest) (at-slots .tally-all .result) (with-lease .tally-key .result) (at-slots .tally-all .ensures .0) (with-lease .tally-key .ensures)
 
 pub is-whole-spec : {M : Type 1} → statement M
