@@ -1,3 +1,14 @@
 mod Words
 mod Float
 mod Formula
+pub mod Settled
+pub mod Seek
+pub mod Offset
+pub mod Differences
+pub mod Same
+pub mod Gap
+pub mod Answers
+pub mod Climb
+pub mod Apart
+pub mod Clip
+pub mod FullRun

@@ -17,7 +17,7 @@ use borrow.Author.Tests.{eq-eqb, ne-eqb}
 use Rattle.poc.specs.PictureNumber.{inLayer, offsetFrom, offsetOf}
 use Rattle.poc.specs.Domain.{Searched}
 use Rattle.poc.specs.Standard.{expectedTemporalId}
-use Rattle.poc.specs.Seek.{expected-digits, layer-digits, stepsLeft, steps-fall, offset-hit, offset-miss}
+use Rattle.poc.proofs.Seek.{expected-digits, layer-digits, stepsLeft, steps-fall, offset-hit, offset-miss}
 use Rattle.poc.proofs.Words.{shifted, power-le, as-signed}
 use Rattle.poc.proofs.doc_offset_from.Statement.{statement}
 use Rattle.poc.proofs.doc_offset_from.Tie as tie

@@ -16,8 +16,9 @@ use borrow.Author.Tests.{eq-eqb, ne-eqb}
 use Rattle.def.specs.declared.EvcPoc.{EvcPoc}
 use Rattle.poc.specs.PictureNumber.{maxPoc, tooHigh, offsetOf, offsetFrom, number, nextOffset, nextPrevious}
 use Rattle.poc.specs.Domain.{Checked, OfLayer, signedOffset}
-use Rattle.poc.specs.Seek.{layer-bounds, offset-reaches}
-use Rattle.poc.specs.Number.{accepted, settled-high, settled-fits, sum-is, sum-low, sum-mag}
+use Rattle.poc.proofs.Seek.{layer-bounds, offset-reaches}
+use Rattle.poc.specs.Number.{accepted}
+use Rattle.poc.proofs.Settled.{settled-high, settled-fits, sum-is, sum-low, sum-mag}
 use Rattle.poc.proofs.Words.{shifted, power-le, as-signed}
 use Rattle.poc.proofs.Formula.{stays-below}
 use Rattle.poc.proofs.other_picture.Statement.{statement}

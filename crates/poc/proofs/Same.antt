@@ -14,9 +14,9 @@ use Rattle.def.specs.declared.EvcPoc.{EvcPoc}
 use Rattle.def.specs.declared.Refusal.the-variants.{BadLayer, BadRecord}
 use Rattle.poc.specs.PictureNumber.{derive, inLayer, seek, offsetFrom, number, badLayer, badRecord, refused, settled, nextOffset, nextPrevious, keyPicture, otherPicture}
 use Rattle.poc.specs.Standard.{standard, expectedTemporalId, whileUnexpected, pocOffset, wholePart, docOffset, temporalZero, temporalAbove}
-use Rattle.poc.specs.Differences.{minus, sub-neg, sub-same}
-use Rattle.poc.specs.Offset.{Layer, length-split, offsetFrom-lands}
-use Rattle.poc.specs.Seek.{twice}
+use Rattle.poc.proofs.Differences.{minus, sub-neg, sub-same}
+use Rattle.poc.proofs.Offset.{Layer, length-split, offsetFrom-lands}
+use Rattle.poc.proofs.Seek.{twice}
 
 -- ---- the search
 
