@@ -12,3 +12,4 @@ pub mod Climb
 pub mod Apart
 pub mod Clip
 pub mod FullRun
+pub mod Examples
