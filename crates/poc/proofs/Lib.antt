@@ -11,5 +11,6 @@ pub mod Answers
 pub mod Climb
 pub mod Apart
 pub mod Clip
+pub mod Why
 pub mod FullRun
 pub mod Examples

@@ -5,3 +5,4 @@ pub mod Number
 pub mod Distance
 pub mod FullRun
 pub mod Clip
+pub mod Why
