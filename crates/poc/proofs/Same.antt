@@ -13,10 +13,10 @@ use Rattle.def.specs.Binary.{floorLog2}
 use Rattle.def.specs.declared.EvcPoc.{EvcPoc}
 use Rattle.def.specs.declared.Refusal.the-variants.{BadLayer, BadRecord}
 use Rattle.poc.specs.PictureNumber.{derive, inLayer, seek, offsetFrom, number, badLayer, badRecord, refused, settled, nextOffset, nextPrevious, keyPicture, otherPicture}
-use Rattle.poc.specs.Standard.{standard, expectedTemporalId, whileUnexpected, pocOffset, wholePart, docOffset, temporalZero, temporalAbove}
-use Rattle.poc.specs.Differences.{minus, sub-neg, sub-same}
-use Rattle.poc.specs.Offset.{Layer, length-split, offsetFrom-lands}
-use Rattle.poc.specs.Seek.{twice}
+use Rattle.poc.specs.Standard.{standard, StandardAgrees, StandardExact, StandardFound, expectedTemporalId, whileUnexpected, pocOffset, wholePart, docOffset, temporalZero, temporalAbove}
+use Rattle.poc.proofs.Differences.{minus, sub-neg, sub-same}
+use Rattle.poc.proofs.Offset.{Layer, length-split, inLayer-true, offsetFrom-lands}
+use Rattle.poc.proofs.Seek.{twice, expected-digits, layer-digits, seek-settled}
 
 -- ---- the search
 
@@ -122,8 +122,7 @@ module _ (L t : ℕ) (above : 1 ≤ t) (most : t ≤ L) (r : EvcPoc) where
       ∙ ap (λ z. settled r z (nextPrevious L r) (offsetFrom L t (nextOffset L r)))
       (same-number L t (offsetFrom L t (nextOffset L r)) above most lands (nextPrevious L r))
 
--- Demand 2: picture numbers equal the exact formula of the standard, on every input.
-pub standard-agrees : (L t : ℕ) (r : EvcPoc) → standard L t r ≡ derive L t r
+pub standard-agrees : StandardAgrees
 unfolding standard derive
 standard-agrees L t r = layer (badLayer L t) refl
   where
@@ -144,9 +143,29 @@ standard-agrees L t r = layer (badLayer L t) refl
     layer true e = refl
     layer false e = held (badRecord r) (layer-within L t e .1)
 
--- Nothing is lost by taking the fraction's whole part: it is a whole number wherever the layer is not refused.
-pub standard-exact : (L t : ℕ) (r : EvcPoc) → badLayer L t ≡ false → 1 ≤ t →
-    let f = pocOffset (2 ^ L) t (docOffset (2 ^ L) t r) in wholePart f *ℤ pos (f .den) ≡ f .num
+pub standard-exact : StandardExact
 standard-exact L t r e above =
     let most = layer-within L t e .1 in
     rw (same-offset L t above most r) (exact L t (offsetFrom L t (nextOffset L r)) above most (lands L t above most r))
+
+-- ---- the search ends
+
+-- once it is found, any number of steps more finds the same
+seek-stays : (k n L t d : ℕ) → inLayer t (seek n L t d) ≡ true → seek (n + k) L t d ≡ seek n L t d
+seek-stays zero n L t d e = let q : n + 0 ≡ n = omega arith in rw q
+seek-stays (suc k) n L t d e =
+    let q : n + suc k ≡ suc (n + k) = omega arith in
+    let s = seek-stays k n L t d e in
+    rw q (seek-settled (n + k) L t d (rw s e) ∙ s)
+
+pub standard-found : StandardFound
+unfolding offsetFrom
+standard-found L t r e above =
+    let most = layer-within L t e .1 in
+    let d = offsetFrom L t (nextOffset L r) in
+    let found = inLayer-true t d above (lands L t above most r) in
+    let there = same-offset L t above most r in
+    record {
+      expected = rw there (expected-digits d ∙ eqb-true _ t (sym (layer-digits t d above) ∙ found));
+      settled-there = λ n. while-seek (2 ^ L + n) L t (nextOffset L r) above ∙ seek-stays n (2 ^ L) L t (nextOffset L r) found ∙ sym there;
+    }

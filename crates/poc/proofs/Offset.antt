@@ -1,6 +1,6 @@
 -- Laws of the search of document 01, "Picture number": which decoding offsets belong to a layer, and where the search ends.
 -- Layer t, above 0, holds the offsets from 2^(t-1) to 2^t - 1. Assumes nothing.
-use mathlib.Core.Path.{_≡_, refl, sym, ap, _∙_, subst}
+use mathlib.Core.Path.{_≡_, refl, sym, ap, _∙_}
 use mathlib.Core.Bool.{Bool, true, false, false≢true}
 use mathlib.Core.Logic.{⊎-elim}
 use Prim.Native.Nat.{ℕ, zero, suc, _+_, _-_, _*_, _%_, _^_, _≤_, _<_}
@@ -12,7 +12,7 @@ use lib.Ieee.Digits.{size-lt, size-le}
 use borrow.Author.Tests.{eq-eqb}
 use Rattle.seq.specs.Numbers.{lt-or-ge}
 use Rattle.poc.specs.PictureNumber.{inLayer, seek, offsetFrom}
-use Rattle.poc.specs.Seek.{layer-digits, layer-bounds, twice, seek-hit, seek-miss}
+use Rattle.poc.proofs.Seek.{layer-digits, layer-bounds, twice, seek-hit, seek-miss}
 
 -- The offset d belongs to the layer t.
 pub record Layer (t d : ℕ) : Type 0 where

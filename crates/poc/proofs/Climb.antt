@@ -13,16 +13,16 @@ use lib.Pow.{pow-pos, pow-mono, pow-lt}
 use borrow.Author.Tests.{eq-eqb, ne-eqb}
 use Rattle.seq.specs.Lists.{count, Rising}
 use Rattle.seq.specs.Numbers.{lt-or-ge}
-use Rattle.seq.specs.Members.{holds-tail}
-use Rattle.seq.specs.Counts.{count-yes, count-tail, rising-step}
+use Rattle.seq.specs.Members.{mem-unmap, holds-tail}
+use Rattle.seq.specs.Counts.{count-yes, count-none, count-tail, rising-step, rising-from-zero}
 use Rattle.seq.specs.Distinct.{Climbing}
 use Rattle.def.specs.declared.EvcPoc.{EvcPoc}
 use Rattle.poc.specs.declared.Derivation.{Derivation}
 use Rattle.poc.specs.PictureNumber.{derive, number, offsetOf, offsetFrom, nextOffset, nextPrevious}
-use Rattle.poc.specs.Distance.{Call, Step, step, isAccepted, accepted, numberOf, layerOf, offsetAfter, Origin}
-use Rattle.poc.specs.Offset.{Layer, first-of, offsetFrom-here, offsetFrom-else}
-use Rattle.poc.specs.Seek.{twice}
-use Rattle.poc.specs.Accepted.{stepOf, derived, accepted-is, accepted-yes, accepted-no}
+use Rattle.poc.specs.Distance.{Call, Step, step, isAccepted, accepted, numberOf, layerOf, offsetAfter, LaterCalls, Origin}
+use Rattle.poc.proofs.Offset.{Layer, first-of, offsetFrom-here, offsetFrom-else}
+use Rattle.poc.proofs.Seek.{twice}
+use Rattle.poc.proofs.Answers.{stepOf, derived, accepted-is, accepted-yes, accepted-no}
 
 -- The decoding offset that a call leaves.
 abbrev pub docAfter : Step → ℕ
@@ -56,22 +56,40 @@ pub record Rest (L t m : ℕ) (ss : List Step) : Type 0 where
   pub of-this : count (eqb t) (map layerOf ss) ≤ m
   pub of-higher : (u : ℕ) → t < u → count (eqb u) (map layerOf ss) ≤ 2 ^ (u - 1)
 
+-- right after a picture of layer 0 every later call of a sub-group is still to come
+pub later-rest : (L : ℕ) (ss : List Step) → LaterCalls L ss → Rest L 0 0 ss
+later-rest L ss h =
+    record {
+      same-length = h .same-length;
+      layers = h .layers;
+      never-fall = rising-from-zero (map layerOf ss) (h .never-fall);
+      of-this = let e = count-none (eqb 0) (map layerOf ss) none in omega arith;
+      of-higher = λ u k. let e = h .at-most u in omega arith;
+    }
+  where
+    none : (t : ℕ) → List·Memᴰ t (map layerOf ss) → eqb 0 t ≡ false
+    none t m =
+        let u = mem-unmap layerOf ss m in
+        let w = h .layers (u .0) (u .1) .0 in
+        let q = u .2 in
+        ne-eqb 0 t (omega arith)
+
 -- ---- one accepted call
 
 -- What an accepted call makes of such a place; `left` is the room that its layer has then.
-record Advance (L p t m d : ℕ) (s : Step) : Type 0 where
-  left : ℕ
-  fits : Fits L p s
-  climbs : d < docAfter s
-  place : Place p (layerOf s) left (docAfter s) (s .after)
-  again : layerOf s ≡ t → suc left ≡ m
-  anew : t < layerOf s → suc left ≡ 2 ^ (layerOf s - 1)
+pub record Advance (L p t m d : ℕ) (s : Step) : Type 0 where
+  pub left : ℕ
+  pub fits : Fits L p s
+  pub climbs : d < docAfter s
+  pub place : Place p (layerOf s) left (docAfter s) (s .after)
+  pub again : layerOf s ≡ t → suc left ≡ m
+  pub anew : t < layerOf s → suc left ≡ 2 ^ (layerOf s - 1)
 
 module _ (L p t m d : ℕ) (r : EvcPoc) (at : Place p t m d r) where
-  next-offset : d + 1 < 2 ^ L → nextOffset L r ≡ d + 1
+  pub next-offset : d + 1 < 2 ^ L → nextOffset L r ≡ d + 1
   next-offset h = ap (λ z. (offsetOf z + 1) % 2 ^ L) (at .offset) ∙ mod-eq-of-lt h
 
-  next-previous : d + 1 < 2 ^ L → nextPrevious L r ≡ p
+  pub next-previous : d + 1 < 2 ^ L → nextPrevious L r ≡ p
   next-previous h = rw (next-offset h, ne-eqb (d + 1) 0 (omega arith)) (at .previous)
 
   module _ (c : Call) (len : c .log2 ≡ L) (above : 1 ≤ c .layer) (most : c .layer ≤ L) (ok : isAccepted (step r c) ≡ true) where
@@ -150,7 +168,7 @@ module _ (L p t m d : ℕ) (r : EvcPoc) (at : Place p t m d r) where
 -- ---- the list
 
 -- what is left after the first of the accepted calls
-rest-tail : (L p t m d : ℕ) (s : Step) (ss : List Step) → Rest L t m (s ∷ ss) → (a : Advance L p t m d s) → Rest L (layerOf s) (a .left) ss
+pub rest-tail : (L p t m d : ℕ) (s : Step) (ss : List Step) → Rest L t m (s ∷ ss) → (a : Advance L p t m d s) → Rest L (layerOf s) (a .left) ss
 rest-tail L p t m d s ss h a =
     record {
       same-length = holds-tail (h .same-length);
@@ -178,7 +196,7 @@ rest-tail L p t m d s ss h a =
         omega arith
 
 -- the first of the accepted calls, by its layer
-advances : (L p t m d : ℕ) (r : EvcPoc) (c : Call) (ss : List Step) → Place p t m d r → isAccepted (step r c) ≡ true → Rest L t m (step r c ∷ ss)
+pub advances : (L p t m d : ℕ) (r : EvcPoc) (c : Call) (ss : List Step) → Place p t m d r → isAccepted (step r c) ≡ true → Rest L t m (step r c ∷ ss)
     → Advance L p t m d (step r c)
 advances L p t m d r c ss at ok h =
     let w = h .layers (step r c) (List·Memᴰ·head refl) in

@@ -7,9 +7,9 @@ use native.Mathlib.Omega.{arith}
 use lib.IntN.{ℤ, pos, subℕ, _+ℤ_}
 use lib.Pow.{pow-pos}
 use Rattle.poc.specs.Distance.{Between, Origin}
-use Rattle.poc.specs.Differences.{sub-same, sub-zero, sub-add, sub-of, sub-inj, pos-inj}
-use Rattle.poc.specs.Offset.{Layer, length-split}
-use Rattle.poc.specs.Seek.{twice}
+use Rattle.poc.proofs.Differences.{sub-same, sub-zero, sub-add, sub-of, sub-inj, pos-inj}
+use Rattle.poc.proofs.Offset.{Layer, length-split}
+use Rattle.poc.proofs.Seek.{twice}
 
 -- ---- an odd number times a power of two
 
@@ -76,7 +76,7 @@ module _ (L t d : ℕ) (above : 1 ≤ t) (most : t ≤ L) (l : Layer t d) where
   part-above : 1 ≤ part L t d
   part-above = mul-pos (omega arith) (pow-pos (L - t))
 
-  part-below : part L t d < 2 ^ L
+  pub part-below : part L t d < 2 ^ L
   part-below =
       let a = l .low in
       let b = l .high in
