@@ -1,3 +1,3 @@
 pub mod Step
 pub mod Running
-pub mod EveryCall
+pub mod Claims

@@ -8,10 +8,12 @@ use lib.IntN.{pos}
 use Rattle.def.specs.declared.EvcPoc.{EvcPoc}
 use Rattle.keys.specs.Keys.{stands, listsIn, Sized}
 use Rattle.keys.specs.declared.Called.{Called}
-use Rattle.poc.specs.PictureNumber.{recordOf}
+use Rattle.poc.specs.PictureNumber.{derive, recordOf}
 use Rattle.line.specs.declared.Call.{Call}
 use Rattle.line.specs.declared.Call.the-variants.{Init, GetEmptyPic, PutPic, OutPic, RefpInit, PocDerivation}
 use Rattle.line.specs.Answers.{replyOf}
+use Rattle.machine.specs.Step.{derivedReply}
+use Rattle.machine.specs.Claims.{TurnedDown}
 use Rattle.whole.specs.Whole.{whole}
 use Rattle.machine.specs.declared.{Machine.Machine, Stepped.Stepped, Scalars.Scalars, Made.Made}
 
@@ -37,21 +39,28 @@ pub record CallRoom (keys rows : List ℕ) (s : Scalars) (call : Call) : Type 0 
   pub sized : Sized keys rows
   pub ready : readsState call ≡ true → whole (stands keys rows (s .rest)) ≡ true
 
--- The reply and the machine after the call are the definition's.
-pub record Makes (r : Made) (keys rows : List ℕ) (wanted : Stepped) : Type 0 where
-  pub replies : r .reply ≡ wanted .reply
-  pub machine-is : machineIn keys rows (r .scalars) ≡ wanted .machine
-  pub still-sized : Sized keys rows
-
--- A call that finds a state that is not whole touches nothing.
+-- Arrays and scalars are as they were.
 pub record Untouched (r : Made) (s : Scalars) (keys rows keys′ rows′ : List ℕ) : Type 0 where
   pub same-keys : keys′ ≡ keys
   pub same-rows : rows′ ≡ rows
   pub same-scalars : r .scalars ≡ s
 
+-- The reply and the machine after the call are the definition's, and a call that is turned down touches nothing.
+pub record Makes (r : Made) (s : Scalars) (keys rows keys′ rows′ : List ℕ) (wanted : Stepped) : Type 0 where
+  pub replies : r .reply ≡ wanted .reply
+  pub machine-is : machineIn keys′ rows′ (r .scalars) ≡ wanted .machine
+  pub still-sized : Sized keys′ rows′
+  pub refused-leaves : TurnedDown (r .reply) → Untouched r s keys rows keys′ rows′
+
 -- A call's answer as a reply; state and lists are the call's, the record stays.
 abbrev pub madeOf : ℕ → Called → EvcPoc → Made
 madeOf call r poc = record { reply = replyOf call (r .answer); scalars = record { rest = r .rest; poc = poc } }
+
+-- What a derivation comes to; the state stays.
+abbrev pub derivedOf : Scalars → ℕ → ℕ → Made
+derivedOf s L t =
+    let d = derive L t (s .poc) in
+    record { reply = derivedReply 6 (d .answer); scalars = record { rest = s .rest; poc = d .poc } }
 
 -- The scalars of the new machine.
 abbrev pub newScalars : Scalars

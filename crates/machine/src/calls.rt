@@ -20,17 +20,14 @@ use line::reply_of;
 use poc::poc_derivation;
 use whole::is_whole;
 ghost use mathlib.Core.Path.{_≡_};
-ghost use mathlib.Core.Bool.{true, false};
-ghost use Rattle.poc.specs.PictureNumber.{derive};
 ghost use Rattle.picman.specs.Init.{init};
 ghost use Rattle.picman.specs.Get.{get};
 ghost use Rattle.picman.specs.Put.{put};
 ghost use Rattle.picman.specs.Out.{out};
 ghost use Rattle.refp.specs.Lists.{lists};
-ghost use Rattle.machine.specs.Step.{onState, onLists, onRecord, putCallOf, refpCallOf, derivedReply, step};
-ghost use Rattle.keys.specs.Keys.{stands, Sized};
-ghost use Rattle.whole.specs.Whole.{whole};
-ghost use Rattle.machine.specs.Running.{machineIn, readsState, callByte, Runs, CallRoom, Makes, Untouched, madeOf};
+ghost use Rattle.machine.specs.Step.{onState, onLists, step};
+ghost use Rattle.keys.specs.Keys.{Sized};
+ghost use Rattle.machine.specs.Running.{machineIn, readsState, callByte, Runs, CallRoom, Makes, madeOf, derivedOf};
 
 // The call bytes of answers.
 const INIT: u8 = 1;
@@ -60,7 +57,7 @@ fn made(call: u8, called: Called, poc: EvcPoc) -> Made
 
 fn init_call(keys: &[u64], rows: &[u32], s: Scalars, max_pb_size: u8, max_num_ref_pics: u8) -> Made
     requires { ⌜ Runs (now keys) (now rows) s ⌝ }
-    ensures { λ r. let m = machineIn (now (keys .entry)) (now (rows .entry)) s in ⌜ Makes r (now (keys .entry)) (now (rows .entry)) (onState 1 m (init (m .pm) «max_pb_size» «max_num_ref_pics»)) ⌝ }
+    ensures { λ r. let m = machineIn (now (keys .entry)) (now (rows .entry)) s in ⌜ Makes r s (now (keys .entry)) (now (rows .entry)) (now (keys .entry)) (now (rows .entry)) (onState 1 m (init (m .pm) «max_pb_size» «max_num_ref_pics»)) ⌝ }
 {
     let rest = s.rest;
     let poc = s.poc;
@@ -73,7 +70,7 @@ fn init_call(keys: &[u64], rows: &[u32], s: Scalars, max_pb_size: u8, max_num_re
 
 fn get_call(keys: &mut [u64], rows: &mut [u32], s: Scalars) -> Made
     requires { ⌜ Runs (now keys) (now rows) s ⌝ }
-    ensures { λ r. let m = machineIn (now (keys .entry)) (now (rows .entry)) s in ⌜ Makes r (now (keys .exit)) (now (rows .exit)) (onState 2 m (get (m .pm))) ⌝ }
+    ensures { λ r. let m = machineIn (now (keys .entry)) (now (rows .entry)) s in ⌜ Makes r s (now (keys .entry)) (now (rows .entry)) (now (keys .exit)) (now (rows .exit)) (onState 2 m (get (m .pm))) ⌝ }
 {
     let rest = s.rest;
     let poc = s.poc;
@@ -82,7 +79,7 @@ fn get_call(keys: &mut [u64], rows: &mut [u32], s: Scalars) -> Made
 
 fn put_call(keys: &mut [u64], rows: &mut [u32], s: Scalars, call: PutCall) -> Made
     requires { ⌜ Runs (now keys) (now rows) s ⌝ }
-    ensures { λ r. let m = machineIn (now (keys .entry)) (now (rows .entry)) s in ⌜ Makes r (now (keys .exit)) (now (rows .exit)) (onState 3 m (put (m .pm) (m .refp) call)) ⌝ }
+    ensures { λ r. let m = machineIn (now (keys .entry)) (now (rows .entry)) s in ⌜ Makes r s (now (keys .entry)) (now (rows .entry)) (now (keys .exit)) (now (rows .exit)) (onState 3 m (put (m .pm) (m .refp) call)) ⌝ }
 {
     let rest = s.rest;
     let poc = s.poc;
@@ -96,7 +93,7 @@ fn put_call(keys: &mut [u64], rows: &mut [u32], s: Scalars, call: PutCall) -> Ma
 
 fn out_call(keys: &mut [u64], rows: &[u32], s: Scalars) -> Made
     requires { ⌜ Runs (now keys) (now rows) s ⌝ }
-    ensures { λ r. let m = machineIn (now (keys .entry)) (now (rows .entry)) s in ⌜ Makes r (now (keys .exit)) (now (rows .entry)) (onState 4 m (out (m .pm))) ⌝ }
+    ensures { λ r. let m = machineIn (now (keys .entry)) (now (rows .entry)) s in ⌜ Makes r s (now (keys .entry)) (now (rows .entry)) (now (keys .exit)) (now (rows .entry)) (onState 4 m (out (m .pm))) ⌝ }
 {
     let rest = s.rest;
     let poc = s.poc;
@@ -105,7 +102,7 @@ fn out_call(keys: &mut [u64], rows: &[u32], s: Scalars) -> Made
 
 fn refp_call(keys: &[u64], rows: &mut [u32], s: Scalars, call: RefpCall) -> Made
     requires { ⌜ Runs (now keys) (now rows) s ⌝ }
-    ensures { λ r. let m = machineIn (now (keys .entry)) (now (rows .entry)) s in ⌜ Makes r (now (keys .entry)) (now (rows .exit)) (onLists 5 m (lists (m .pm) (m .refp) call)) ⌝ }
+    ensures { λ r. let m = machineIn (now (keys .entry)) (now (rows .entry)) s in ⌜ Makes r s (now (keys .entry)) (now (rows .entry)) (now (keys .entry)) (now (rows .exit)) (onLists 5 m (lists (m .pm) (m .refp) call)) ⌝ }
 {
     let rest = s.rest;
     let poc = s.poc;
@@ -119,7 +116,7 @@ fn refp_call(keys: &[u64], rows: &mut [u32], s: Scalars, call: RefpCall) -> Made
 }
 
 fn poc_call(s: Scalars, log2_sub_gop_length: u8, tid: u8) -> Made
-    ensures { λ r. ⌜ r ≡ record { reply = derivedReply 6 (derive «log2_sub_gop_length» tid (s .poc) .answer); scalars = record { rest = s .rest; poc = derive «log2_sub_gop_length» tid (s .poc) .poc } } ⌝ }
+    ensures { λ r. ⌜ r ≡ derivedOf s «log2_sub_gop_length» tid ⌝ }
 {
     let before = s.poc;
     let rest = s.rest;
@@ -167,7 +164,7 @@ fn reads_state(call: Call) -> bool
 // A call, where it reads the state, on one that is whole.
 pub fn make_call(keys: &mut [u64], rows: &mut [u32], s: Scalars, call: Call) -> Made
     requires { ⌜ CallRoom (now keys) (now rows) s call ⌝ }
-    ensures { λ r. ⌜ Makes r (now (keys .exit)) (now (rows .exit)) (step (machineIn (now (keys .entry)) (now (rows .entry)) s) call) ⌝ }
+    ensures { λ r. ⌜ Makes r s (now (keys .entry)) (now (rows .entry)) (now (keys .exit)) (now (rows .exit)) (step (machineIn (now (keys .entry)) (now (rows .entry)) s) call) ⌝ }
 {
     match call {
         Call::Init {
@@ -239,8 +236,7 @@ fn call_byte(call: Call) -> u8
 // A call on any bits: one that reads the state tests first whether it is whole.
 pub fn checked_call(keys: &mut [u64], rows: &mut [u32], s: Scalars, call: Call) -> Made
     requires { ⌜ Sized (now keys) (now rows) ⌝ }
-    ensures makes { λ r. ⌜ Makes r (now (keys .exit)) (now (rows .exit)) (step (machineIn (now (keys .entry)) (now (rows .entry)) s) call) ⌝ }
-    ensures untouched { λ r. ⌜ (readsState call ≡ true → whole (stands (now (keys .entry)) (now (rows .entry)) (s .rest)) ≡ false → Untouched r s (now (keys .entry)) (now (rows .entry)) (now (keys .exit)) (now (rows .exit))) ⌝ }
+    ensures { λ r. ⌜ Makes r s (now (keys .entry)) (now (rows .entry)) (now (keys .exit)) (now (rows .exit)) (step (machineIn (now (keys .entry)) (now (rows .entry)) s) call) ⌝ }
 {
     let rest = s.rest;
     if reads_state(call) {

@@ -4,18 +4,17 @@ use Prim.Native.Nat.{ℕ, _+_, _*_, _^_}
 use mathlib.Core.Path.{_≡_}
 use mathlib.Core.Bool.{Bool, true, false, _&&_}
 use mathlib.Core.List.{List}
-use lib.Dec.{eqb, ltb}
+use lib.Dec.{eqb, leb, ltb}
 use lib.ListN.{length}
 use Rattle.def.specs.State.{slots}
-use Rattle.keys.specs.Keys.{rowsLength, stands}
-use Rattle.whole.specs.Whole.{whole}
+use Rattle.keys.specs.Keys.{rowsLength}
 use Rattle.line.specs.declared.{Call.Call, Reply.Reply}
 use Rattle.line.specs.declared.Call.the-variants.{PutPic}
 use Rattle.line.specs.Answers.{badLineReply}
 use Rattle.registers.specs.Registers.{registersLength, restOf, pocOf}
 use Rattle.machine.specs.declared.Machine.{Machine}
 use Rattle.machine.specs.Step.{step}
-use Rattle.machine.specs.Running.{machineIn, readsState}
+use Rattle.machine.specs.Running.{machineIn}
 
 -- The machine that the slices stand for.
 abbrev pub machineAt : List ℕ → List ℕ → List ℕ → Machine
@@ -35,12 +34,16 @@ pub record Same (keys rows registers keys′ rows′ registers′ : List ℕ) : 
   pub same-rows : rows′ ≡ rows
   pub same-registers : registers′ ≡ registers
 
--- A call on slices of the right sizes: the reply and the machine are the definition's, and a state that is not whole is left bit for bit.
+-- A status from 1 to 18 is a refusal.
+abbrev pub isRefusal : ℕ → Bool
+isRefusal status = leb 1 status && leb status 18
+
+-- A call on slices of the right sizes: the reply and the machine are the definition's, and a call that is turned down leaves them bit for bit.
 pub record CalledOn (r : Reply) (call : Call) (keys rows registers keys′ rows′ registers′ : List ℕ) : Type 0 where
   pub replies : r ≡ step (machineAt keys rows registers) call .reply
   pub machine-is : machineAt keys′ rows′ registers′ ≡ step (machineAt keys rows registers) call .machine
   pub still-sized : sized keys′ rows′ registers′ ≡ true
-  pub not-whole : readsState call ≡ true → whole (stands keys rows (restOf registers)) ≡ false → Same keys rows registers keys′ rows′ registers′
+  pub refused-leaves : isRefusal (r .status) ≡ true → Same keys rows registers keys′ rows′ registers′
 
 -- A size that does not fit: 18, and nothing is written.
 pub record BadSize (r : ℕ) (keys rows registers keys′ rows′ registers′ : List ℕ) : Type 0 where

@@ -20,15 +20,13 @@ ghost use Rattle.keys.specs.Keys.{rowsLength};
 ghost use Rattle.line.specs.Answers.{badLineReply};
 ghost use Rattle.line.specs.declared.Call.the-variants.{Init, GetEmptyPic, PutPic, OutPic, RefpInit, PocDerivation};
 ghost use Rattle.registers.specs.Registers.{registersLength};
-ghost use Rattle.picman_ffi.specs.Arrays.{sized, answerWord, CalledOn, OnArrays, OnPut};
+ghost use Rattle.picman_ffi.specs.Arrays.{sized, answerWord, isRefusal, CalledOn, OnArrays, OnPut};
 
 const KEYS: usize = 27;
 
 const ROWS: usize = 1533;
 
 const REGISTERS: usize = 13;
-
-const STATE_NOT_WHOLE: u8 = 7;
 
 const BAD_LINE: u8 = 18;
 
@@ -49,7 +47,14 @@ fn answer_word(reply: Reply) -> u64
     (reply.value as u64) * 0x1_0000_0000 + (reply.buf as u64) * 256 + reply.status as u64
 }
 
-// A call on slices of the right sizes. A state that is not whole leaves the registers too as they are.
+// Whether a status is a refusal.
+fn is_refusal(status: u8) -> bool
+    ensures { λ r. ⌜ r ≡ isRefusal status ⌝ }
+{
+    (1 <= status) & (status <= BAD_LINE)
+}
+
+// A call on slices of the right sizes. A call that is turned down leaves the registers too as they are, whatever their bits.
 fn call_on(keys: &mut [u64], rows: &mut [u32], registers: &mut [u32], call: Call) -> Reply
     requires { ⌜ (length (now keys) ≡ slots) × (length (now rows) ≡ rowsLength) × (length (now registers) ≡ registersLength) ⌝ }
     ensures { λ r. ⌜ CalledOn r call (now (keys .entry)) (now (rows .entry)) (now (registers .entry)) (now (keys .exit)) (now (rows .exit)) (now (registers .exit)) ⌝ }
@@ -59,7 +64,7 @@ fn call_on(keys: &mut [u64], rows: &mut [u32], registers: &mut [u32], call: Call
     let before = Scalars { rest, poc };
     let made = checked_call(keys, rows, before, call);
     let reply = made.reply;
-    if reply.status == STATE_NOT_WHOLE {
+    if is_refusal(reply.status) {
         return reply;
     }
     let after = made.scalars;

@@ -9,7 +9,8 @@ use lib.Seq.{take-append-seam, take-take}
 use native.Mathlib.Omega.{arith}
 use Rattle.line.specs.Calls.{readLine}
 use Rattle.line.specs.Lines.{isNewline}
-use Rattle.machine.specs.EveryCall.{Sound, line-sound, new-sound, line-not-seven}
+use Rattle.machine.specs.Claims.{Sound}
+use Rattle.machine.proofs.EveryCall.{line-sound, new-sound, line-not-seven}
 use Rattle.run.specs.declared.Session.{Session}
 use Rattle.run.specs.Run.{Runner, endLine, extendLine, feed, feedPieces, finish, start}
 use Rattle.run.specs.Session.{runnerIn, NewSession, newKeys, newRows}

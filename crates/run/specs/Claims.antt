@@ -6,7 +6,7 @@ use mathlib.Core.List.{List, [], _∷_, _++_}
 use lib.ListN.{take}
 use Rattle.line.specs.Calls.{readLine}
 use Rattle.machine.specs.Step.{stepLine}
-use Rattle.machine.specs.EveryCall.{Sound}
+use Rattle.machine.specs.Claims.{Sound}
 use Rattle.run.specs.declared.{Session.Session, Ran.Ran}
 use Rattle.run.specs.Run.{program, feed, start, joined}
 use Rattle.run.specs.Session.{NewSession, newKeys, newRows, RanOver, EndedOver}
