@@ -4,6 +4,8 @@ use Prim.Native.Nat.{ℕ}
 use mathlib.Core.Path.{_≡_, refl, sym, subst}
 use mathlib.Core.List.{List}
 use native.Mathlib.Omega.{arith}
+use Rattle.def.specs.declared.{EvcRefP.EvcRefP, PmResult.PmResult, Answer.Answer, Refusal.Refusal}
+use Rattle.keys.specs.declared.{Rest.Rest, Called.Called}
 use Rattle.keys.specs.Keys.{listsIn, stands, Sized, Comes}
 use Rattle.picman.specs.Get.{refused}
 use Rattle.picman.specs.OnKeys.{turnedDown, Calls}

@@ -15,6 +15,7 @@ use Rattle.seq.specs.Lowest.{lowest-passes, found-any, lowest-none}
 use Rattle.seq.specs.Changes.{getD-mem, remove-length}
 use Rattle.seq.specs.Members.{mem-map}
 use Rattle.seq.specs.Commute.{map-lowest, map-any, map-remove}
+use Rattle.def.specs.declared.{Answer.Answer, Refusal.Refusal}
 use Rattle.def.specs.State.{slots, highestPoc, noSlot, isIdle, isPresent}
 use Rattle.keys.specs.declared.Rest.{Rest}
 use Rattle.keys.specs.Keys.{keyPresent, keyIdle, keyBuffers, keyNumber, rowLength, rowAt, slotAt, stands, Sized}

@@ -14,6 +14,7 @@ use Rattle.seq.specs.Lowest.{lowest-passes, lowest-none, found-any}
 use Rattle.seq.specs.Changes.{getD-mem}
 use Rattle.seq.specs.Members.{mem-map}
 use Rattle.seq.specs.Commute.{map-lowest, map-any, map-set}
+use Rattle.def.specs.declared.{EvcPm.EvcPm, Answer.Answer}
 use Rattle.def.specs.State.{slots, highestPoc, noSlot, isWanted}
 use Rattle.keys.specs.declared.Rest.{Rest}
 use Rattle.keys.specs.Keys.{keyPresent, keyWanted, keyNumber, keyOut, keyHandedOver, rowsLength, slotAt, stands, Sized}

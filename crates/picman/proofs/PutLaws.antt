@@ -10,6 +10,7 @@ use lib.Dec.{ltb}
 use lib.ListN.{length, getD}
 use borrow.Author.Tests.{ltb-true, ltb-false}
 use Rattle.seq.specs.All.{and-left, and-right, and-both}
+use Rattle.def.specs.declared.{Slot.Slot, EvcPm.EvcPm, EvcRefP.EvcRefP, PutCall.PutCall, PmResult.PmResult, Answer.Answer, Refusal.Refusal}
 use Rattle.def.specs.State.{slots, highestPoc, noSlot}
 use Rattle.whole.specs.Whole.{whole}
 use Rattle.picman.specs.Get.{refused}

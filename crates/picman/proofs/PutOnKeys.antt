@@ -15,6 +15,8 @@ use Rattle.seq.specs.Distinct.{distinct-apart}
 use Rattle.seq.specs.Members.{mem-map, select-mem, select-append}
 use Rattle.seq.specs.Maps.{map-at}
 use Rattle.seq.specs.Commute.{map-append, map-set, map-count, map-highest}
+use Rattle.def.specs.declared.{Slot.Slot, EvcPm.EvcPm, PutCall.PutCall, Answer.Answer, Refusal.Refusal}
+use Rattle.keys.specs.declared.{Rest.Rest, Called.Called}
 use Rattle.def.specs.State.{slots, noSlot, isPresent, isMarked, isEmpty, bufferOf}
 use Rattle.keys.specs.Keys.{keyPresent, keyBuffer, keyBuffers, keyEmpty, keyMade, keyUnmarked, rowLength, numberRow, rowAt, slotAt, listsIn, stands, Sized, Comes}
 use Rattle.keys.proofs.RowLaws.{row-written, row-other, row-length}

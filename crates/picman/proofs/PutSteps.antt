@@ -6,6 +6,7 @@ use mathlib.Core.Bool.{true, false}
 use mathlib.Core.List.{List}
 use borrow.Author.Tests.{lt-ltb, le-ltb}
 use Rattle.seq.specs.All.{cond-true, cond-false}
+use Rattle.def.specs.declared.{EvcPm.EvcPm, EvcRefP.EvcRefP, PutCall.PutCall, PmResult.PmResult, Answer.Answer, Refusal.Refusal}
 use Rattle.def.specs.State.{highestPoc}
 use Rattle.picman.specs.Get.{refused}
 use Rattle.picman.specs.Put.{listed, placeFor, slotTaken, placedAt, place, putMarked}

@@ -9,6 +9,7 @@ use mathlib.Core.List.{List, _∷_, List·Memᴰ}
 use lib.ListN.{length, getD}
 use Rattle.seq.specs.Lists.{any, count, highest}
 use Rattle.seq.specs.Often.{SameNumbers}
+use Rattle.def.specs.declared.{EvcPm.EvcPm, EvcRefP.EvcRefP, PutCall.PutCall, PmResult.PmResult, Answer.Answer, Refusal.Refusal}
 use Rattle.def.specs.State.{slots, listPlaces, highestPoc, noSlot, isPresent, isIdle, isEmpty}
 use Rattle.whole.specs.Whole.{whole, heldBuffers}
 use Rattle.picman.specs.Init.{init}
