@@ -58,10 +58,10 @@ refused-number (poc.Derived n) t f = absurd (omega (arith, t .0))
 refused-number (poc.Refused why) t f = f why refl
 
 -- the machine with another state, and with another record
-withState : Machine → EvcPm → Machine
+abbrev withState : Machine → EvcPm → Machine
 withState m q = record { pm = q; refp = m .refp; poc = m .poc }
 
-withRecord : Machine → EvcPoc → Machine
+abbrev withRecord : Machine → EvcPoc → Machine
 withRecord m p = record { pm = m .pm; refp = m .refp; poc = p }
 
 pub call-unchanged : CallUnchanged
@@ -92,7 +92,7 @@ put-keeps-size pm refp c v size = pick (puts pm refp c)
     pick (put-laws.too-high w p t) = size
     pick (put-laws.no-lease w p t l) = size
     pick (put-laws.slot-taken w p t l o) = size
-    pick (put-laws.stored w p t l o) = length-set (remarked c pm .pic) _ _ ∙ remarked-size c pm w size
+    pick (put-laws.placed w p t l o) = length-set (remarked c pm .pic) _ _ ∙ remarked-size c pm w size
 
 lists-keep-slots : (pm : EvcPm) (refp : List EvcRefP) (c : RefpCall) → lists pm refp c .pm .pic ≡ pm .pic
 lists-keep-slots pm refp c = ap (λ (q : EvcPm). q .pic) (only-counts pm refp c)
@@ -192,7 +192,7 @@ call-not-seven m (RefpInit slice poc layer intra limit) s e =
 call-not-seven m (PocDerivation L t) s e = by (derive-why L t (m .poc) StateNotWhole .0 (seven-number _ e))
   where
     by : Refusing L t (m .poc) StateNotWhole → ⊥
-    by ()
+    by = elim [ ]
 
 pub line-not-seven : LineNotSeven
 unfolding stepLine

@@ -1,34 +1,90 @@
 -- From what a call of the core comes to, to what it does to the machine that the arrays stand for.
 -- Assumes nothing.
 use mathlib.Core.Path.{_≡_, refl, sym, ap, _∙_, subst}
-use mathlib.Core.Bool.{true}
-use mathlib.Core.List.{List}
-use Prim.Native.Nat.{ℕ}
-use lib.ListN.{length, length-map, replicate}
-use Rattle.def.specs.declared.{EvcPoc.EvcPoc, RefpCall.RefpCall, PmResult.PmResult, RefpResult.RefpResult}
+use mathlib.Core.Bool.{Bool, true, false, not, _||_}
+use mathlib.Core.Bool as Bool
+use mathlib.Core.List.{List, _∷_}
+use Prim.Native.Nat.{ℕ, zero, suc, _+_, _-_, _*_, _≤_, _<_}
+use native.Mathlib.Omega.{arith}
+use lib.ListN.{getD, take, drop, length-map, replicate, getD-replicate}
+use Rattle.seq.specs.Table.{entriesFrom, entries}
+use Rattle.def.specs.declared.{EvcPm.EvcPm, EvcRefP.EvcRefP, EvcPoc.EvcPoc, PutCall.PutCall, RefpCall.RefpCall, PmResult.PmResult, RefpResult.RefpResult}
 use Rattle.def.specs.State.{slots}
-use Rattle.keys.specs.Keys.{rowsLength, slotAt, stands, listsIn, Sized}
+use Rattle.keys.specs.Keys.{rowLength, headRow, numberRow, entryRow, rowsLength, rowAt, slotAt, entryAt, stands, listsIn, Sized}
 use Rattle.keys.specs.declared.{Called.Called, Rest.Rest}
 use Rattle.poc.specs.PictureNumber.{derive}
 use Rattle.poc.proofs.Why.{derive-refused}
 use Rattle.picman.specs.OnKeys.{Calls}
-use Rattle.refp.specs.Lists.{listsWhole}
+use Rattle.picman.specs.{Init.init, Init.initWhole, Get.get, Get.getWhole, Out.out, Out.outWhole, Put.remarked, Put.putMarked, Put.putWhole, Put.put}
+use Rattle.refp.specs.Lists.{listsWhole, lists}
 use Rattle.refp.specs.Running.{ListsCame}
 use Rattle.whole.specs.Whole.{whole}
-use Rattle.line.specs.declared.Line.{Line}
+use Rattle.line.specs.declared.{Call.Call, Line.Line}
+use Rattle.line.specs.declared.Call.the-variants.{Init, GetEmptyPic, PutPic, OutPic, RefpInit, PocDerivation}
+use Rattle.def.specs.declared.Answer.the-variants.{Refused}
+use Rattle.def.specs.declared.Refusal.the-variants.{StateNotWhole}
 use Rattle.line.specs.Answers.{replyOf}
 use Rattle.machine.specs.declared.{Machine.Machine, Stepped.Stepped, Scalars.Scalars, Made.Made}
-use Rattle.machine.specs.Step.{newMachine, onState, onLists, onRecord, stepLine}
-use Rattle.machine.specs.Running.{machineIn, newScalars, Runs, Makes, madeOf, derivedOf}
+use Rattle.machine.specs.Step.{newRefP, newLists, newMachine, putCallOf, refpCallOf, onState, onLists, onRecord, step, stepLine}
+use Rattle.machine.specs.Running.{machineIn, newScalars, readsState, callByte, isReady, Runs, CallRoom, Makes, madeOf, derivedOf}
 use Rattle.machine.specs.Claims.{Sound}
 use Rattle.machine.proofs.EveryCall.{refused-answer, refused-number, line-sound}
 
 pub sound-in : {keys rows : List ℕ} {s : Scalars} → Runs keys rows s → Sound (machineIn keys rows s)
 sound-in {keys} {rows} r = record { whole-state = r .whole-state; all-slots = length-map keys (slotAt rows) ∙ r .sized .slots-long }
 
--- The new machine is what arrays of zeros and the new scalars stand for.
-pub new-machine : machineIn (replicate slots 0) (replicate rowsLength 0) newScalars ≡ newMachine
-new-machine = refl
+-- ---- the new machine is what arrays of zeros and the new scalars stand for
+
+zeros-dropped : (i n : ℕ) → drop {A = ℕ} i (replicate n 0) ≡ replicate (n - i) 0
+zeros-dropped zero n = let e : n ≡ n - 0 = omega arith in ap (λ (k : ℕ). replicate {A = ℕ} k 0) e
+zeros-dropped (suc i) zero = let e : 0 ≡ 0 - suc i = omega arith in ap (λ (k : ℕ). replicate {A = ℕ} k 0) e
+zeros-dropped (suc i) (suc n) = let e : n - i ≡ suc n - suc i = omega arith in zeros-dropped i n ∙ ap (λ (k : ℕ). replicate {A = ℕ} k 0) e
+
+zeros-taken : (i n : ℕ) → i ≤ n → take {A = ℕ} i (replicate n 0) ≡ replicate i 0
+zeros-taken zero n h = refl
+zeros-taken (suc i) zero h = absurd (omega arith)
+zeros-taken (suc i) (suc n) h = ap {B = List ℕ} (λ l. 0 ∷ l) (zeros-taken i n (omega arith))
+
+same-entries : {A : Type 0} (rule : ℕ → A) (x : A) (i n : ℕ) → ((k : ℕ) → k < i + n → rule k ≡ x) → entriesFrom rule i n ≡ replicate n x
+unfolding entriesFrom
+same-entries rule x i zero h = refl
+same-entries rule x i (suc n) h = rw (h i (omega arith), same-entries rule x (suc i) n (λ k l. h k (omega arith)))
+
+module _ (rows : List ℕ) (e : rows ≡ replicate rowsLength 0) where
+  new-entry : (j : ℕ) → j < 42 → entryAt rows j ≡ newRefP
+  unfolding rowAt
+  new-entry j h =
+      let head : getD rows (rowLength * headRow + j) 0 ≡ 0 = ap (λ (l : List ℕ). getD l (rowLength * headRow + j) 0) e ∙ getD-replicate rowsLength (rowLength * headRow + j) 0 0 (omega arith) in
+      let number : getD rows (rowLength * numberRow + j) 0 ≡ 0 = ap (λ (l : List ℕ). getD l (rowLength * numberRow + j) 0) e ∙ getD-replicate rowsLength (rowLength * numberRow + j) 0 0 (omega arith) in
+      let row : take rowLength (drop (rowLength * (entryRow + j)) rows) ≡ replicate rowLength 0 =
+      ap (λ (l : List ℕ). take rowLength (drop (rowLength * (entryRow + j)) l)) e
+      ∙ ap (take rowLength) (zeros-dropped (rowLength * (entryRow + j)) rowsLength)
+      ∙ zeros-taken rowLength (rowsLength - rowLength * (entryRow + j)) (omega arith) in
+      rw (head, number, row) refl
+
+  pub new-lists : listsIn rows ≡ newLists
+  unfolding entries
+  new-lists = same-entries (entryAt rows) newRefP 0 42 new-entry
+
+pub new-machine : (rows : List ℕ) → rows ≡ replicate rowsLength 0 → machineIn (replicate slots 0) rows newScalars ≡ newMachine
+new-machine rows e = rw (new-lists rows e) refl
+
+-- ---- on a whole state the test is passed
+
+pub init-on-whole : (pm : EvcPm) (size refs : ℕ) → whole pm ≡ true → init pm size refs ≡ initWhole pm size refs
+unfolding init
+init-on-whole pm size refs w = rw w
+
+pub get-on-whole : (pm : EvcPm) → whole pm ≡ true → get pm ≡ getWhole pm
+unfolding get
+get-on-whole pm w = rw w
+
+pub out-on-whole : (pm : EvcPm) → whole pm ≡ true → out pm ≡ outWhole pm
+unfolding out
+out-on-whole pm w = rw w
+
+pub put-on-whole : (pm : EvcPm) (refp : List EvcRefP) (c : PutCall) → whole pm ≡ true → put pm refp c ≡ putWhole pm refp c
+put-on-whole pm refp c w = ap (λ (b : Bool). putMarked b pm (remarked c pm) refp c) w
 
 module _ (keys rows : List ℕ) (s : Scalars) (call : ℕ) where
   abbrev m : Machine
@@ -82,9 +138,60 @@ record-makes keys rows s L t sized e = rw e (record {
 })
 
 -- A call on a machine that runs leaves one that runs.
-pub runs-on : {keys rows keys′ rows′ : List ℕ} {s : Scalars} {r : Made} {l : Line} → Runs keys rows s
+pub runs-on : {keys rows keys′ rows′ : List ℕ} {s : Scalars} {r : Made} (l : Line) → Runs keys rows s
     → Makes r s keys rows keys′ rows′ (stepLine (machineIn keys rows s) l) → Runs keys′ rows′ (r .scalars)
-runs-on {keys} {rows} {s = s} {l = l} runs c = record {
+runs-on {keys} {rows} {s = s} l runs c = record {
   sized = c .still-sized;
   whole-state = ap (λ (m : Machine). whole (m .pm)) (c .machine-is) ∙ line-sound (machineIn keys rows s) l (sound-in runs) .whole-state;
 }
+
+-- ---- a call by what it is
+
+pub room-runs : {keys rows : List ℕ} {s : Scalars} {call k : Call} → CallRoom keys rows s call → call ≡ k → readsState k ≡ true → Runs keys rows s
+room-runs room e r = record { sized = room .sized; whole-state = room .ready (ap readsState e ∙ r) }
+
+pub by-call : {r : Made} {s : Scalars} {keys rows keys′ rows′ : List ℕ} {call k : Call} → call ≡ k
+    → Makes r s keys rows keys′ rows′ (step (machineIn keys rows s) k) → Makes r s keys rows keys′ rows′ (step (machineIn keys rows s) call)
+by-call {r} {s} {keys} {rows} {keys′} {rows′} e c = subst (λ (x : Call). Makes r s keys rows keys′ rows′ (step (machineIn keys rows s) x)) (sym e) c
+
+-- a call that is not ready is refused with 7, and one that is may be made
+pub ready-room : {keys rows : List ℕ} {s : Scalars} (call : Call) → Sized keys rows → isReady keys rows s call ≡ true → CallRoom keys rows s call
+ready-room {keys} {rows} {s} call sized e = record { sized = sized; ready = λ r. rw r at e }
+
+module _ {keys rows : List ℕ} (s : Scalars) (sized : Sized keys rows) where
+  abbrev refusedMade : Call → Made
+  refusedMade call = madeOf (callByte call) (record { answer = Refused StateNotWhole; rest = s .rest }) (s .poc)
+
+  not-whole-step : (call : Call) → readsState call ≡ true → whole (stands keys rows (s .rest)) ≡ false
+      → step (machineIn keys rows s) call ≡ record { reply = refusedMade call .reply; machine = machineIn keys rows s }
+  unfolding step init get out putMarked lists
+  not-whole-step (Init size refs) r w = rw w
+  not-whole-step GetEmptyPic r w = rw w
+  not-whole-step (PutPic flags poc tid gap) r w = not-whole-put (putCallOf flags poc tid gap) w
+    where
+      not-whole-put : (c : PutCall) → whole (stands keys rows (s .rest)) ≡ false
+          → onState 3 (machineIn keys rows s) (put (stands keys rows (s .rest)) (listsIn rows) c)
+          ≡ record { reply = replyOf 3 (Refused StateNotWhole); machine = machineIn keys rows s }
+      not-whole-put c w = ap (λ (b : Bool). onState 3 (machineIn keys rows s) (putMarked b (stands keys rows (s .rest)) (remarked c (stands keys rows (s .rest))) (listsIn rows) c)) w
+  not-whole-step OutPic r w = rw w
+  not-whole-step (RefpInit slice poc layer intra limit) r w = not-whole-lists (refpCallOf slice poc layer intra limit) w
+    where
+      not-whole-lists : (c : RefpCall) → whole (stands keys rows (s .rest)) ≡ false
+          → onLists 5 (machineIn keys rows s) (lists (stands keys rows (s .rest)) (listsIn rows) c)
+          ≡ record { reply = replyOf 5 (Refused StateNotWhole); machine = machineIn keys rows s }
+      not-whole-lists c w = rw w
+  not-whole-step (PocDerivation L t) r w = absurd (Bool.false≢true r)
+
+  pub refused-makes : (call : Call) → isReady keys rows s call ≡ false → (made : Made) → made ≡ refusedMade call
+      → Makes made s keys rows keys rows (step (machineIn keys rows s) call)
+  refused-makes call n made e = both (readsState call) refl (whole (stands keys rows (s .rest))) refl n
+    where
+      both : (b : Bool) → readsState call ≡ b → (w : Bool) → whole (stands keys rows (s .rest)) ≡ w → (not b || w) ≡ false → Makes made s keys rows keys rows (step (machineIn keys rows s) call)
+      both false r w v x = absurd (Bool.true≢false x)
+      both true r true v x = absurd (Bool.true≢false x)
+      both true r false v x = rw (e, not-whole-step call r v) (record {
+        replies = refl;
+        machine-is = refl;
+        still-sized = sized;
+        refused-leaves = λ t. record { same-keys = refl; same-rows = refl; same-scalars = refl };
+      })

@@ -1,7 +1,7 @@
 -- The running machine: which machine the lent arrays and the scalars stand for, and what a call on them comes to.
 -- Assumes nothing.
 use mathlib.Core.Path.{_≡_}
-use mathlib.Core.Bool.{Bool, true, false}
+use mathlib.Core.Bool.{Bool, true, false, not, _||_}
 use mathlib.Core.List.{List}
 use Prim.Native.Nat.{ℕ}
 use lib.IntN.{pos}
@@ -44,6 +44,10 @@ pub record Untouched (r : Made) (s : Scalars) (keys rows keys′ rows′ : List 
   pub same-keys : keys′ ≡ keys
   pub same-rows : rows′ ≡ rows
   pub same-scalars : r .scalars ≡ s
+
+-- A call finds what it asks of the state.
+abbrev pub isReady : List ℕ → List ℕ → Scalars → Call → Bool
+isReady keys rows s call = not (readsState call) || whole (stands keys rows (s .rest))
 
 -- The reply and the machine after the call are the definition's, and a call that is turned down touches nothing.
 pub record Makes (r : Made) (s : Scalars) (keys rows keys′ rows′ : List ℕ) (wanted : Stepped) : Type 0 where

@@ -13,7 +13,6 @@ use def::RefpCall;
 use def::Refusal;
 use keys::Called;
 use keys::PLACES;
-use keys::Rest;
 use keys::SLOTS;
 use line::Call;
 use line::reply_of;
@@ -26,8 +25,12 @@ ghost use Rattle.picman.specs.Put.{put};
 ghost use Rattle.picman.specs.Out.{out};
 ghost use Rattle.refp.specs.Lists.{lists};
 ghost use Rattle.machine.specs.Step.{onState, onLists, step};
+ghost use mathlib.Core.List.{List};
+ghost use Prim.Native.Nat.{ℕ};
+ghost use lib.ListN.{length};
+ghost use Rattle.def.specs.State.{slots};
 ghost use Rattle.keys.specs.Keys.{Sized};
-ghost use Rattle.machine.specs.Running.{machineIn, readsState, callByte, Runs, CallRoom, Makes, madeOf, derivedOf};
+ghost use Rattle.machine.specs.Running.{machineIn, readsState, callByte, isReady, Runs, CallRoom, Makes, madeOf, derivedOf};
 
 // The call bytes of answers.
 const INIT: u8 = 1;
@@ -233,19 +236,31 @@ fn call_byte(call: Call) -> u8
     }
 }
 
+// Whether a call finds what it asks of the state.
+fn is_ready(keys: &[u64], s: Scalars, call: Call) -> bool
+    requires { ⌜ length (now keys) ≡ slots ⌝ }
+    ensures { λ r. ⌜ ((rows : List ℕ) → r ≡ isReady (now (keys .entry)) rows s call) ⌝ }
+{
+    if reads_state(call) {
+        let rest = s.rest;
+        return is_whole(keys, rest);
+    }
+    true
+}
+
 // A call on any bits: one that reads the state tests first whether it is whole.
 pub fn checked_call(keys: &mut [u64], rows: &mut [u32], s: Scalars, call: Call) -> Made
     requires { ⌜ Sized (now keys) (now rows) ⌝ }
     ensures { λ r. ⌜ Makes r s (now (keys .entry)) (now (rows .entry)) (now (keys .exit)) (now (rows .exit)) (step (machineIn (now (keys .entry)) (now (rows .entry)) s) call) ⌝ }
 {
-    let rest = s.rest;
-    if reads_state(call) {
-        if !is_whole(keys, rest) {
-            return Made {
-                reply: reply_of(call_byte(call), Answer::Refused(Refusal::StateNotWhole)),
-                scalars: s,
-            };
-        }
+    if is_ready(keys, s, call) {
+        return make_call(keys, rows, s, call);
     }
-    make_call(keys, rows, s, call)
+    let rest = s.rest;
+    let poc = s.poc;
+    let called = Called {
+        answer: Answer::Refused(Refusal::StateNotWhole),
+        rest,
+    };
+    made(call_byte(call), called, poc)
 }

@@ -10,7 +10,6 @@ use line::Reply;
 pub mod calls;
 pub mod fields;
 pub mod fresh;
-pub mod step;
 
 // All that the program keeps from call to call.
 pub struct Machine {

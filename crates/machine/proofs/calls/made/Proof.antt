@@ -1,0 +1,14 @@
+-- `machine::calls::made` meets its contract. Assumes nothing.
+use mathlib.Core.Path.{_≡_, refl, sym, ap, _∙_}
+use borrow.Author.Needs.{needs}
+use Rattle.machine.proofs.calls.made.Statement.{statement}
+use Rattle.machine.proofs.calls.made.Tie as tie
+
+reply-of-requires : tie.Need-reply-of-requires
+reply-of-requires c κs = search needs
+
+returns : tie.Need-returns
+returns c = rw (c .reply-of .ensures) refl
+
+pub made-spec : {M : Type 1} → statement M
+made-spec = tie.close (tie.spec reply-of-requires returns)
