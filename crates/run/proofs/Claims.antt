@@ -30,12 +30,12 @@ over-writes : {keys rows written : List ℕ} {s : Session} {pieces : List (List 
     → (r : Runner) → Alike (runnerIn keys rows s) r → written ≡ feedPieces r pieces .written ++ finish (feedPieces r pieces .runner)
 unfolding feedPieces
 over-writes (at-end {out′ = out′} {n = n} e) r a = front out′ _ _ n (e .written) (e .length-is) ∙ finish-alike a
-over-writes (after-piece {piece = piece} {pieces} {out′ = out′} {rest} {ran} e more) r a =
+over-writes {keys} {rows} {s = s} (after-piece {piece = piece} {pieces} {out′ = out′} {rest} {r = ran} e more) r a =
     let n = feed-alike piece a in
     let wrote : take (ran .len) out′ ≡ feed r piece .written = front out′ _ _ (ran .len) (e .written) (e .length-is) ∙ n .written in
-    let next = record {
+    let next : Alike _ (feed r piece .runner) = record {
       machines = e .machine ∙ n .runners .machines;
-      lines = ap (take kept) (e .line) ∙ take-take kept kept _ (omega arith) ∙ n .runners .lines;
+      lines = ap (take kept) (e .line) ∙ take-take kept kept (feed (runnerIn keys rows s) piece .runner .line) (omega arith) ∙ n .runners .lines;
     } in
     let later = over-writes more (feed r piece .runner) next in
     ap (λ (w : List ℕ). w ++ rest) wrote
@@ -46,7 +46,7 @@ pub run-writes : RunWrites
 run-writes s pieces written new o = over-writes o start (new-alike s new) ∙ pieces-agree pieces
   where
     new-alike : (s : Session) → NewSession s → Alike (runnerIn newKeys newRows s) start
-    new-alike s new = record { machines = ap (machineIn newKeys newRows) (new .new-scalars) ∙ new-machine; lines = ap (take kept) (new .no-line) }
+    new-alike s new = record { machines = ap (machineIn newKeys newRows) (new .new-scalars) ∙ new-machine newRows refl; lines = ap (take kept) (new .no-line) }
 
 -- ---- the state of a run
 

@@ -3,4 +3,6 @@ pub mod Feeding
 pub mod Pieces
 pub mod Kept
 pub mod Turns
+pub mod NextLines
+pub mod Ending
 pub mod Claims

@@ -58,7 +58,7 @@ fn searched_line(partial: Partial, piece: &[u8], at: usize) -> NextLine
     ensures { λ r. ⌜ NextIs r (heldLine partial) (now (piece .entry)) at ⌝ }
 {
     let end = line_end(piece, at);
-    if end == piece.len() {
+    if piece.len() <= end {
         return NextLine {
             complete: false,
             line: Line::Bad,
@@ -108,7 +108,7 @@ fn bad_line(scalars: Scalars) -> Made
 // What a line does.
 fn answer_line(keys: &mut [u64], rows: &mut [u32], scalars: Scalars, line: Line) -> Made
     requires { ⌜ Runs (now keys) (now rows) scalars ⌝ }
-    ensures { λ r. ⌜ Makes r (now (keys .exit)) (now (rows .exit)) (stepLine (machineIn (now (keys .entry)) (now (rows .entry)) scalars) line) ⌝ }
+    ensures { λ r. ⌜ Makes r scalars (now (keys .entry)) (now (rows .entry)) (now (keys .exit)) (now (rows .exit)) (stepLine (machineIn (now (keys .entry)) (now (rows .entry)) scalars) line) ⌝ }
 {
     match line {
         Line::Good(call) => make_call(keys, rows, scalars, call),

@@ -1,13 +1,14 @@
--- `machine::partial::extended` meets its contract. Assumes nothing.
+-- `run::partial::extended` meets its contract. Assumes nothing.
 use Prim.Native.Nat.{ℕ, _+_, _-_, _≤_, min}
 use native.Mathlib.Omega.{arith}
 use mathlib.Core.Path.{_≡_, sym, ap, _∙_}
 use lib.ListN.{length, take}
 use lib.Seq.{paste, length-paste}
 use borrow.Author.Needs.{needs}
-use Rattle.machine.specs.Partial.{kept, kept-append}
-use Rattle.machine.proofs.partial.extended.Statement.{statement}
-use Rattle.machine.proofs.partial.extended.Tie as tie
+use Rattle.run.specs.Partial.{kept}
+use Rattle.run.proofs.PartialLaws.{kept-append}
+use Rattle.run.proofs.partial.extended.Statement.{statement}
+use Rattle.run.proofs.partial.extended.Tie as tie
 
 sub-least : tie.Need-sub-least
 sub-least c = search needs

@@ -1,10 +1,10 @@
--- `machine::partial::read_held` meets its contract. Assumes nothing.
+-- `run::partial::read_held` meets its contract. Assumes nothing.
 use native.Mathlib.Omega.{arith}
 use mathlib.Core.Path.{sym}
 use lib.Seq.{length-take-le}
 use borrow.Author.Needs.{needs}
-use Rattle.machine.proofs.partial.read_held.Statement.{statement}
-use Rattle.machine.proofs.partial.read_held.Tie as tie
+use Rattle.run.proofs.partial.read_held.Statement.{statement}
+use Rattle.run.proofs.partial.read_held.Tie as tie
 
 array-share-prefix-bytes : tie.Need-array-share-prefix-bytes
 array-share-prefix-bytes c = omega arith

@@ -1,4 +1,4 @@
--- `machine::partial::read_with` meets its contract: the characters that are kept say what the whole line says.
+-- `run::partial::read_with` meets its contract: the characters that are kept say what the whole line says.
 -- Assumes nothing.
 use Prim.Native.Nat.{ℕ}
 use mathlib.Core.Path.{sym, ap, _∙_}
@@ -6,9 +6,9 @@ use mathlib.Core.List.{_++_}
 use lib.ListN.{take}
 use borrow.Author.Needs.{needs}
 use Rattle.line.specs.Calls.{readLine}
-use Rattle.machine.specs.Partial.{kept-reads}
-use Rattle.machine.proofs.partial.read_with.Statement.{statement}
-use Rattle.machine.proofs.partial.read_with.Tie as tie
+use Rattle.run.proofs.PartialLaws.{kept-reads}
+use Rattle.run.proofs.partial.read_with.Statement.{statement}
+use Rattle.run.proofs.partial.read_with.Tie as tie
 
 read-line-requires : tie.Need-read-line-requires
 read-line-requires c κs = search needs

@@ -1,0 +1,14 @@
+-- `run::bad_line` meets its contract. Assumes nothing.
+use mathlib.Core.Path.{refl}
+use borrow.Author.Needs.{needs}
+use Rattle.run.proofs.bad_line.Statement.{statement}
+use Rattle.run.proofs.bad_line.Tie as tie
+
+refusal-number-requires : tie.Need-refusal-number-requires
+refusal-number-requires c κs = search needs
+
+returns : tie.Need-returns
+returns c = rw (c .refusal-number .ensures) refl
+
+pub bad-line-spec : {M : Type 1} → statement M
+bad-line-spec = tie.close (tie.spec refusal-number-requires returns)
