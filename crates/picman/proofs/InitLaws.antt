@@ -4,7 +4,7 @@
 use Prim.Native.Nat.{ℕ, _≤_, _<_}
 use mathlib.Core.Path.{_≡_, refl, subst}
 use mathlib.Core.Bool.{Bool, true, false, cond, not, _||_, or-true}
-use mathlib.Core.Logic.{_↔_, _⊎_, inl, inr}
+use mathlib.Core.Logic.{inl, inr}
 use mathlib.Core.List.{List, [], _∷_, _++_}
 use native.Mathlib.Omega.{arith}
 use lib.Dec.{ltb, eqb}
@@ -21,28 +21,19 @@ use Rattle.def.specs.declared.Answer.the-variants.{Done, Refused}
 use Rattle.def.specs.declared.Refusal.{Refusal}
 use Rattle.def.specs.declared.Refusal.the-variants.{SizeTooBig, StateNotWhole}
 use Rattle.def.specs.State.{slots, listPlaces, emptySlot, withLimits}
-use Rattle.store.specs.Search.{buffersOf}
-use Rattle.whole.specs.Whole.{whole, places, heldBuffers, zeroIfEmpty, pocFits}
+use Rattle.whole.specs.Whole.{buffersOf, whole, places, heldBuffers, zeroIfEmpty, pocFits}
 use Rattle.whole.specs.Laws.{rule, whole-rules}
 use Rattle.whole.specs.Holding.{holds, buffers-passing}
 use Rattle.picman.specs.Get.{refused}
 use Rattle.picman.specs.Init.{init}
-use Rattle.picman.specs.Keeps.{all-places, slots-pass}
-
--- A store over 27 or references over 21.
-abbrev pub TooBig : ℕ → ℕ → Type 0
-TooBig size refs = (slots < size) ⊎ (listPlaces < refs)
+use Rattle.picman.specs.Claims.{TooBig, InitTurnedDown, InitWhy, InitRefused, InitKeepsWhole, InitKeepsSlots, InitKeepsNext}
+use Rattle.picman.proofs.Keeps.{all-places, slots-pass}
 
 -- The cases of an init, each with its condition and what it gives.
 pub data Inits (pm : EvcPm) (size refs : ℕ) : PmResult → Type 0 where
   not-whole : whole pm ≡ false → Inits pm size refs (refused StateNotWhole pm)
   too-big : whole pm ≡ true → TooBig size refs → Inits pm size refs (refused SizeTooBig pm)
   done : whole pm ≡ true → size ≤ slots → refs ≤ listPlaces → Inits pm size refs (record { answer = Done; pm = withLimits pm size refs })
-
--- The refusals of an init and their conditions: 7, 1.
-pub data InitWhy (pm : EvcPm) (size refs : ℕ) : Refusal → Type 0 where
-  is-not-whole : whole pm ≡ false → InitWhy pm size refs StateNotWhole
-  is-too-big : whole pm ≡ true → TooBig size refs → InitWhy pm size refs SizeTooBig
 
 module _ (pm : EvcPm) (size refs : ℕ) where
   pub inits : Inits pm size refs (init pm size refs)
@@ -57,35 +48,6 @@ module _ (pm : EvcPm) (size refs : ℕ) where
       pick true w true e r f = too-big w (inl (ltb-true slots size e))
       pick true w false e true f = too-big w (inr (ltb-true listPlaces refs f))
       pick true w false e false f = done w (ltb-false slots size e) (ltb-false listPlaces refs f)
-
-  -- ---- an init that is turned down changes nothing
-
-  pub init-refused : (why : Refusal) → init pm size refs .answer ≡ Refused why → init pm size refs .pm ≡ pm
-  init-refused why e = pick inits e
-    where
-      pick : {r : PmResult} → Inits pm size refs r → r .answer ≡ Refused why → r .pm ≡ pm
-      pick (not-whole w) e = refl
-      pick (too-big w t) e = refl
-      pick (done w s r) e = let z : _≡_ {A = ℕ} 0 1 = cc in absurd (omega arith)
-
-  -- ---- each number under its condition, and under no other
-
-  pub init-why : (why : Refusal) → (init pm size refs .answer ≡ Refused why) ↔ InitWhy pm size refs why
-  unfolding init
-  init-why why = (λ e. because inits e, λ k. so k)
-    where
-      because : {r : PmResult} → Inits pm size refs r → r .answer ≡ Refused why → InitWhy pm size refs why
-      because (not-whole w) e = let q : StateNotWhole ≡ why = cc in subst (InitWhy pm size refs) q (is-not-whole w)
-      because (too-big w t) e = let q : SizeTooBig ≡ why = cc in subst (InitWhy pm size refs) q (is-too-big w t)
-      because (done w s r) e = let z : _≡_ {A = ℕ} 0 1 = cc in absurd (omega arith)
-
-      tested : TooBig size refs → (ltb slots size || ltb listPlaces refs) ≡ true
-      tested (inl h) = rw (lt-ltb slots size h)
-      tested (inr h) = rw (lt-ltb listPlaces refs h) (or-true (ltb slots size))
-
-      so : {why : Refusal} → InitWhy pm size refs why → init pm size refs .answer ≡ Refused why
-      so (is-not-whole w) = rw w
-      so (is-too-big w t) = rw (w, tested t)
 
   -- ---- the limits are set and the lease dropped
 
@@ -124,28 +86,57 @@ module _ (pm : EvcPm) (size refs : ℕ) where
       now : List ℕ
       now = heldBuffers (withLimits pm size refs)
 
-  -- ---- every init
+-- ---- an init that is turned down changes nothing
 
-  pub init-keeps-whole : whole pm ≡ true → whole (init pm size refs .pm) ≡ true
-  init-keeps-whole v = pick inits
-    where
-      pick : {r : PmResult} → Inits pm size refs r → whole (r .pm) ≡ true
-      pick (not-whole w) = v
-      pick (too-big w t) = v
-      pick (done w s r) = limits-whole w s r
+pub init-refused : InitRefused
+init-refused pm size refs why e = pick (inits pm size refs) e
+  where
+    pick : {r : PmResult} → Inits pm size refs r → r .answer ≡ Refused why → r .pm ≡ pm
+    pick (not-whole w) e = refl
+    pick (too-big w t) e = refl
+    pick (done w s r) e = let z : _≡_ {A = ℕ} 0 1 = cc in absurd (omega arith)
 
-  pub init-keeps-slots : init pm size refs .pm .pic ≡ pm .pic
-  init-keeps-slots = pick inits
-    where
-      pick : {r : PmResult} → Inits pm size refs r → r .pm .pic ≡ pm .pic
-      pick (not-whole w) = refl
-      pick (too-big w t) = refl
-      pick (done w s r) = refl
+-- ---- each number under its condition, and under no other
 
-  pub init-keeps-next : init pm size refs .pm .«poc_next_output» ≡ pm .«poc_next_output»
-  init-keeps-next = pick inits
-    where
-      pick : {r : PmResult} → Inits pm size refs r → r .pm .«poc_next_output» ≡ pm .«poc_next_output»
-      pick (not-whole w) = refl
-      pick (too-big w t) = refl
-      pick (done w s r) = refl
+pub init-why : InitWhy
+unfolding init
+init-why pm size refs why = (λ e. because (inits pm size refs) e, λ k. so k)
+  where
+    because : {r : PmResult} → Inits pm size refs r → r .answer ≡ Refused why → InitTurnedDown pm size refs why
+    because (not-whole w) e = let q : StateNotWhole ≡ why = cc in subst (InitTurnedDown pm size refs) q (InitTurnedDown.is-not-whole w)
+    because (too-big w t) e = let q : SizeTooBig ≡ why = cc in subst (InitTurnedDown pm size refs) q (InitTurnedDown.is-too-big w t)
+    because (done w s r) e = let z : _≡_ {A = ℕ} 0 1 = cc in absurd (omega arith)
+
+    tested : TooBig size refs → (ltb slots size || ltb listPlaces refs) ≡ true
+    tested (inl h) = rw (lt-ltb slots size h)
+    tested (inr h) = rw (lt-ltb listPlaces refs h) (or-true (ltb slots size))
+
+    so : {why : Refusal} → InitTurnedDown pm size refs why → init pm size refs .answer ≡ Refused why
+    so (InitTurnedDown.is-not-whole w) = rw w
+    so (InitTurnedDown.is-too-big w t) = rw (w, tested t)
+
+-- ---- every init
+
+pub init-keeps-whole : InitKeepsWhole
+init-keeps-whole pm size refs v = pick (inits pm size refs)
+  where
+    pick : {r : PmResult} → Inits pm size refs r → whole (r .pm) ≡ true
+    pick (not-whole w) = v
+    pick (too-big w t) = v
+    pick (done w s r) = limits-whole pm size refs w s r
+
+pub init-keeps-slots : InitKeepsSlots
+init-keeps-slots pm size refs = pick (inits pm size refs)
+  where
+    pick : {r : PmResult} → Inits pm size refs r → r .pm .pic ≡ pm .pic
+    pick (not-whole w) = refl
+    pick (too-big w t) = refl
+    pick (done w s r) = refl
+
+pub init-keeps-next : InitKeepsNext
+init-keeps-next pm size refs = pick (inits pm size refs)
+  where
+    pick : {r : PmResult} → Inits pm size refs r → r .pm .«poc_next_output» ≡ pm .«poc_next_output»
+    pick (not-whole w) = refl
+    pick (too-big w t) = refl
+    pick (done w s r) = refl

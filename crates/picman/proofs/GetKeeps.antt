@@ -10,10 +10,10 @@ use lib.Dec.{eqb}
 use lib.ListN.{length, getD}
 use borrow.Author.Tests.{not-true}
 use mir.Val.{boolByte}
-use Rattle.seq.specs.Lists.{all, count, lowest, removeAt, Distinct}
+use Rattle.seq.specs.Lists.{all, any, count, lowest, removeAt, Distinct}
 use Rattle.seq.specs.All.{and-left, and-right}
 use Rattle.seq.specs.Reorder.{reordered-all}
-use Rattle.seq.specs.Lowest.{lowest-passes}
+use Rattle.seq.specs.Lowest.{lowest-passes, any-found}
 use Rattle.seq.specs.Changes.{remove-length, remove-reordered, count-last}
 use Rattle.seq.specs.Tallies.{count-one}
 use Rattle.seq.specs.Often.{SameNumbers, same-mem, same-distinct}
@@ -22,13 +22,13 @@ use Rattle.def.specs.declared.EvcPm.{EvcPm}
 use Rattle.def.specs.declared.PmResult.{PmResult}
 use Rattle.def.specs.declared.Answer.the-variants.{Picture}
 use Rattle.def.specs.State.{slots, newPic, emptySlot, noSlot, held, isPresent, isMarked, isIdle}
-use Rattle.store.specs.Search.{buffersOf}
-use Rattle.whole.specs.Whole.{whole, places, heldBuffers, zeroIfEmpty, pocFits}
+use Rattle.whole.specs.Whole.{buffersOf, whole, places, heldBuffers, zeroIfEmpty, pocFits}
 use Rattle.whole.specs.Laws.{rule, whole-rules, free-buffer-below, free-buffer-not-held}
 use Rattle.whole.specs.Holding.{holds, buffers-passing}
+use Rattle.picman.specs.Claims.{Pictures, GetKeepsWhole, GetPictures, GetKeepsSize}
 use Rattle.picman.specs.Get.{reuse, freeBuffer, fresh, get}
-use Rattle.picman.specs.GetLaws.{Gets, not-whole, leased, idle, full, made, gets}
-use Rattle.picman.specs.Keeps.{store-holds, store-whole, all-places, slots-pass}
+use Rattle.picman.proofs.GetLaws.{Gets, not-whole, leased, idle, full, made, gets}
+use Rattle.picman.proofs.Keeps.{store-holds, store-whole, all-places, slots-pass}
 
 module _ (pm : EvcPm) (w : whole pm ≡ true) (size : length (pm .pic) ≡ slots) (free : pm .«pic_lease» .present ≡ false) where
   -- no picture is leased: the slots hold them all
@@ -122,53 +122,45 @@ module _ (pm : EvcPm) (w : whole pm ≡ true) (size : length (pm .pic) ≡ slots
 
 -- ---- every get
 
--- A new picture was made: its buffer number is one of 27, no slot and no lease held it, and it is held besides those of before.
-pub record Made (pm : EvcPm) (r : PmResult) : Type 0 where
-  pub answers : r .answer ≡ Picture (freeBuffer pm) 0
-  pub below : freeBuffer pm < slots
-  pub not-held : List·Memᴰ (freeBuffer pm) (heldBuffers pm) → ⊥
-  pub added : SameNumbers (freeBuffer pm ∷ heldBuffers pm) (heldBuffers (r .pm))
+module _ (pm : EvcPm) (size : length (pm .pic) ≡ slots) (some : any isIdle (pm .pic) ≡ true) where
+  idle-in : lowest isIdle (pm .pic) < slots
+  idle-in = omega (arith, any-found isIdle (pm .pic) some)
 
--- Each buffer number is held by slots and lease as often as before, or one new picture was made.
-abbrev pub Pictures : EvcPm → PmResult → Type 0
-Pictures pm r = SameNumbers (heldBuffers pm) (heldBuffers (r .pm)) ⊎ Made pm r
+  found-idle : isIdle (getD (pm .pic) (lowest isIdle (pm .pic)) noSlot) ≡ true
+  found-idle = lowest-passes noSlot isIdle (pm .pic) (any-found isIdle (pm .pic) some)
 
-module _ (pm : EvcPm) (size : length (pm .pic) ≡ slots) where
-  found-idle : lowest isIdle (pm .pic) < slots → isIdle (getD (pm .pic) (lowest isIdle (pm .pic)) noSlot) ≡ true
-  found-idle h = lowest-passes noSlot isIdle (pm .pic) (omega arith)
+pub get-keeps-whole : GetKeepsWhole
+get-keeps-whole pm size v = pick (gets pm)
+  where
+    pick : {r : PmResult} → Gets pm r → whole (r .pm) ≡ true
+    pick (not-whole w) = v
+    pick (leased w l) = v
+    pick (idle w l h) = reuse-whole pm w size l (lowest isIdle (pm .pic)) (idle-in pm size h) (found-idle pm size h)
+    pick (full w l h f) = v
+    pick (made w l h f) = fresh-whole pm w size l f
 
-  pub get-keeps-whole : whole pm ≡ true → whole (get pm .pm) ≡ true
-  get-keeps-whole v = pick (gets pm)
-    where
-      pick : {r : PmResult} → Gets pm r → whole (r .pm) ≡ true
-      pick (not-whole w) = v
-      pick (leased w l) = v
-      pick (idle w l h) = reuse-whole pm w size l (lowest isIdle (pm .pic)) h (found-idle h)
-      pick (full w l h f) = v
-      pick (made w l h f) = fresh-whole pm w size l f
+pub get-pictures : GetPictures
+get-pictures pm size = pick (gets pm)
+  where
+    pick : {r : PmResult} → Gets pm r → Pictures pm r
+    pick (not-whole w) = inl (λ b. refl)
+    pick (leased w l) = inl (λ b. refl)
+    pick (idle w l h) = inl (reuse-held pm w size l (lowest isIdle (pm .pic)) (idle-in pm size h) (found-idle pm size h))
+    pick (full w l h f) = inl (λ b. refl)
+    pick (made w l h f) =
+        inr (record {
+          answers = refl;
+          below = fresh-in-range pm w size l f;
+          not-held = fresh-not-held pm w size l f;
+          added = fresh-held pm w size l f;
+        })
 
-  pub get-pictures : Pictures pm (get pm)
-  get-pictures = pick (gets pm)
-    where
-      pick : {r : PmResult} → Gets pm r → Pictures pm r
-      pick (not-whole w) = inl (λ b. refl)
-      pick (leased w l) = inl (λ b. refl)
-      pick (idle w l h) = inl (reuse-held pm w size l (lowest isIdle (pm .pic)) h (found-idle h))
-      pick (full w l h f) = inl (λ b. refl)
-      pick (made w l h f) =
-          inr (record {
-            answers = refl;
-            below = fresh-in-range pm w size l f;
-            not-held = fresh-not-held pm w size l f;
-            added = fresh-held pm w size l f;
-          })
-
-  pub get-keeps-size : length (get pm .pm .pic) ≡ slots
-  get-keeps-size = pick (gets pm)
-    where
-      pick : {r : PmResult} → Gets pm r → length (r .pm .pic) ≡ slots
-      pick (not-whole w) = size
-      pick (leased w l) = size
-      pick (idle w l h) = remove-length emptySlot (lowest isIdle (pm .pic)) (pm .pic) (omega arith) ∙ size
-      pick (full w l h f) = size
-      pick (made w l h f) = size
+pub get-keeps-size : GetKeepsSize
+get-keeps-size pm size = pick (gets pm)
+  where
+    pick : {r : PmResult} → Gets pm r → length (r .pm .pic) ≡ slots
+    pick (not-whole w) = size
+    pick (leased w l) = size
+    pick (idle w l h) = remove-length emptySlot (lowest isIdle (pm .pic)) (pm .pic) (any-found isIdle (pm .pic) h) ∙ size
+    pick (full w l h f) = size
+    pick (made w l h f) = size

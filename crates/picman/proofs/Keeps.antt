@@ -20,8 +20,8 @@ use Rattle.whole.specs.Whole.{whole, places, heldBuffers, isPresent, zeroIfEmpt
 use Rattle.whole.specs.Laws.{rule, whole-rules}
 use Rattle.whole.specs.Holding.{holds, buffers-passing, same-below, same-differ}
 use Rattle.marking.specs.Marking.{marking, flush}
-use Rattle.marking.specs.Kept.{Kept, kept-refl, kept-length, flush-kept, marked-kept}
-use Rattle.marking.specs.Limits.{flush-count}
+use Rattle.marking.proofs.Kept.{Kept, kept-refl, kept-length, flush-kept, marked-kept}
+use Rattle.marking.proofs.Limits.{flush-count}
 use Rattle.picman.specs.Put.{remarked}
 
 -- ---- a state with other slots, lease and counts

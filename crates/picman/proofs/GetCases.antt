@@ -5,10 +5,10 @@ use mathlib.Core.Bool.{true, false, not, _&&_}
 use Prim.Native.Nat.{_≤_, _<_}
 use native.Mathlib.Omega.{arith}
 use lib.ListN.{length, getD}
-use borrow.Author.Tests.{lt-ltb, le-ltb, le-leb, lt-leb}
-use Rattle.seq.specs.Lists.{count, lowest}
+use borrow.Author.Tests.{le-leb, lt-leb}
+use Rattle.seq.specs.Lists.{any, count, lowest}
 use Rattle.seq.specs.All.{and-left, cond-true, cond-false, count-some}
-use Rattle.seq.specs.Lowest.{lowest-passes}
+use Rattle.seq.specs.Lowest.{lowest-passes, any-found}
 use Rattle.seq.specs.Changes.{getD-mem}
 use Rattle.def.specs.declared.EvcPm.{EvcPm}
 use Rattle.def.specs.declared.Refusal.the-variants.{StoreFull, PictureLeased}
@@ -24,13 +24,13 @@ module _ (pm : EvcPm) where
   get-leased l = cond-true _ _ l
 
   -- The lowest idle slot.
-  pub get-idle : pm .«pic_lease» .present ≡ false → lowest isIdle (pm .pic) < slots → getWhole pm ≡ reuse pm (lowest isIdle (pm .pic))
+  pub get-idle : pm .«pic_lease» .present ≡ false → any isIdle (pm .pic) ≡ true → getWhole pm ≡ reuse pm (lowest isIdle (pm .pic))
   unfolding getWhole
-  get-idle l h = cond-false _ _ l ∙ cond-true _ _ (lt-ltb (lowest isIdle (pm .pic)) slots h)
+  get-idle l h = cond-false _ _ l ∙ cond-true _ _ h
 
-  pub get-none-idle : pm .«pic_lease» .present ≡ false → slots ≤ lowest isIdle (pm .pic) → getWhole pm ≡ getNew pm
+  pub get-none-idle : pm .«pic_lease» .present ≡ false → any isIdle (pm .pic) ≡ false → getWhole pm ≡ getNew pm
   unfolding getWhole
-  get-none-idle l h = cond-false _ _ l ∙ cond-false _ _ (le-ltb (lowest isIdle (pm .pic)) slots h)
+  get-none-idle l h = cond-false _ _ l ∙ cond-false _ _ h
 
   -- No idle picture and as many pictures as the store size: 2.
   pub new-full : pm .«max_pb_size» ≤ count isPresent (pm .pic) → getNew pm ≡ refused StoreFull pm
@@ -40,8 +40,9 @@ module _ (pm : EvcPm) where
   new-fresh h = cond-false _ _ (lt-leb (pm .«max_pb_size») (count isPresent (pm .pic)) h)
 
   -- An idle picture is in the store, so the stored size is above 0.
-  pub idle-occupied : whole pm ≡ true → length (pm .pic) ≡ slots → lowest isIdle (pm .pic) < slots → 0 < pm .«cur_pb_size»
-  idle-occupied w n h =
+  pub idle-occupied : whole pm ≡ true → any isIdle (pm .pic) ≡ true → 0 < pm .«cur_pb_size»
+  idle-occupied w some =
+      let h = any-found isIdle (pm .pic) some in
       let s = getD (pm .pic) (lowest isIdle (pm .pic)) noSlot in
       let m = getD-mem noSlot (pm .pic) (lowest isIdle (pm .pic)) (omega arith) in
       let p = lowest-passes noSlot isIdle (pm .pic) (omega arith) in

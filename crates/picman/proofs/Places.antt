@@ -23,7 +23,7 @@ use Rattle.whole.specs.Whole.{whole, places, heldBuffers, isPresent, zeroIfEmpt
 use Rattle.whole.specs.Laws.{rule, whole-rules, leased-occupied, leased-empty-slot, marked-occupied}
 use Rattle.whole.specs.Holding.{holds, buffers-passing}
 use Rattle.picman.specs.Put.{taken, placeFor, slotTaken, placedAt}
-use Rattle.picman.specs.Keeps.{store-whole, all-places, slots-pass}
+use Rattle.picman.proofs.Keeps.{store-whole, all-places, slots-pass}
 
 module _ (c : PutCall) (numbers : List ℕ) (q : EvcPm) (w : whole q ≡ true) (size : length (q .pic) ≡ slots) (leased : q .«pic_lease» .present ≡ true) where
   abbrev new : Slot
