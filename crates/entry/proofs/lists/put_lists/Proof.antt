@@ -7,7 +7,7 @@ use lib.ListN.{length, take, length-set}
 use Rattle.seq.specs.Table.{entries, entriesFrom}
 use Rattle.def.specs.declared.{EvcRefP.EvcRefP}
 use Rattle.keys.specs.Keys.{rowsLength, listsIn}
-use Rattle.entry.specs.Lists.{places}
+use Rattle.entry.specs.Entry.{places}
 use Rattle.entry.proofs.Entries.{put-turn, put-end}
 use Rattle.entry.proofs.lists.put_lists.Statement.{statement}
 use Rattle.entry.proofs.lists.put_lists.Tie as tie

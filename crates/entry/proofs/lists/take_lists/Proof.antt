@@ -5,7 +5,7 @@ use native.Mathlib.Omega.{arith}
 use borrow.Author.Needs.{needs}
 use lib.ListN.{length, take}
 use Rattle.keys.specs.Keys.{rowsLength, listsIn}
-use Rattle.entry.specs.Lists.{places}
+use Rattle.entry.specs.Entry.{places}
 use Rattle.entry.proofs.Entries.{take-turn, take-end}
 use Rattle.entry.proofs.lists.take_lists.Statement.{statement}
 use Rattle.entry.proofs.lists.take_lists.Tie as tie
