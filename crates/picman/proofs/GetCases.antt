@@ -4,7 +4,7 @@ use mathlib.Core.Path.{_≡_, _∙_}
 use mathlib.Core.Bool.{true, false, not, _&&_}
 use Prim.Native.Nat.{_≤_, _<_}
 use native.Mathlib.Omega.{arith}
-use lib.ListN.{length, getD}
+use lib.ListN.{getD}
 use borrow.Author.Tests.{le-leb, lt-leb}
 use Rattle.seq.specs.Lists.{any, count, lowest}
 use Rattle.seq.specs.All.{and-left, cond-true, cond-false, count-some}
@@ -12,7 +12,7 @@ use Rattle.seq.specs.Lowest.{lowest-passes, any-found}
 use Rattle.seq.specs.Changes.{getD-mem}
 use Rattle.def.specs.declared.EvcPm.{EvcPm}
 use Rattle.def.specs.declared.Refusal.the-variants.{StoreFull, PictureLeased}
-use Rattle.def.specs.State.{slots, noSlot, isPresent, isIdle}
+use Rattle.def.specs.State.{noSlot, isPresent, isIdle}
 use Rattle.whole.specs.Whole.{whole}
 use Rattle.whole.specs.Laws.{whole-rules}
 use Rattle.picman.specs.Get.{refused, reuse, fresh, getNew, getWhole}

@@ -3,7 +3,7 @@
 use Prim.Native.Nat.{ℕ, _-_, _<_}
 use mathlib.Core.Path.{_≡_, refl, sym, ap, subst, _∙_}
 use mathlib.Core.Bool.{Bool, true, false, not, _&&_, and-false}
-use mathlib.Core.Logic.{_⊎_, inl, inr, ⊎-elim}
+use mathlib.Core.Logic.{inl, inr, ⊎-elim}
 use mathlib.Core.List.{List, [], _∷_, _++_, List·Memᴰ, List·Memᴰ·cases-cons}
 use native.Mathlib.Omega.{arith}
 use lib.Dec.{eqb}
@@ -20,13 +20,12 @@ use Rattle.seq.specs.Often.{SameNumbers, same-mem, same-distinct}
 use Rattle.def.specs.declared.Slot.{Slot}
 use Rattle.def.specs.declared.EvcPm.{EvcPm}
 use Rattle.def.specs.declared.PmResult.{PmResult}
-use Rattle.def.specs.declared.Answer.the-variants.{Picture}
 use Rattle.def.specs.State.{slots, newPic, emptySlot, noSlot, held, isPresent, isMarked, isIdle}
 use Rattle.whole.specs.Whole.{buffersOf, whole, places, heldBuffers, zeroIfEmpty, pocFits}
 use Rattle.whole.specs.Laws.{rule, whole-rules, free-buffer-below, free-buffer-not-held}
 use Rattle.whole.specs.Holding.{holds, buffers-passing}
 use Rattle.picman.specs.Claims.{Pictures, GetKeepsWhole, GetPictures, GetKeepsSize}
-use Rattle.picman.specs.Get.{reuse, freeBuffer, fresh, get}
+use Rattle.picman.specs.Get.{reuse, freeBuffer, fresh}
 use Rattle.picman.proofs.GetLaws.{Gets, not-whole, leased, idle, full, made, gets}
 use Rattle.picman.proofs.Keeps.{store-holds, store-whole, all-places, slots-pass}
 

@@ -1,7 +1,7 @@
 -- What every init does: it answers by one of three cases; an init that is turned down changes nothing; a whole state stays whole;
 -- slots and next output stay, and only the leased picture is dropped.
 -- Assumes nothing.
-use Prim.Native.Nat.{ℕ, _≤_, _<_}
+use Prim.Native.Nat.{ℕ, _≤_}
 use mathlib.Core.Path.{_≡_, refl, subst}
 use mathlib.Core.Bool.{Bool, true, false, cond, not, _||_, or-true}
 use mathlib.Core.Logic.{inl, inr}

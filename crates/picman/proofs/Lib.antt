@@ -8,3 +8,8 @@ pub mod GetKeeps
 pub mod OutLaws
 pub mod PutLaws
 pub mod InitLaws
+pub mod Calls
+pub mod GetOnKeys
+pub mod OutOnKeys
+pub mod PutOnKeys
+pub mod InitOnKeys

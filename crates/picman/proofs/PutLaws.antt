@@ -3,7 +3,7 @@
 -- Assumes nothing.
 use Prim.Native.Nat.{ℕ, _≤_, _<_}
 use mathlib.Core.Path.{_≡_, refl, ap, subst, _∙_}
-use mathlib.Core.Bool.{Bool, true, false, cond, not, _&&_}
+use mathlib.Core.Bool.{Bool, true, false, cond, not}
 use mathlib.Core.List.{List, []}
 use native.Mathlib.Omega.{arith}
 use lib.Dec.{ltb}
@@ -15,7 +15,7 @@ use Rattle.def.specs.State.{slots, highestPoc, noSlot}
 use Rattle.whole.specs.Whole.{whole}
 use Rattle.picman.specs.Get.{refused}
 use Rattle.picman.specs.Put.{remarked, listed, placeFor, slotTaken, place, putMarked, put}
-use Rattle.picman.specs.Claims.{PutTurnedDown, PutWhy, PutRefused, Safe, PutSafe, HasPlace, PutPlace}
+use Rattle.picman.specs.Claims.{PutTurnedDown, PutWhy, PutRefused, Safe, PutSafe, PutPlace}
 use Rattle.picman.proofs.PutSteps.{stored, place-taken, put-high, put-unleased, put-places}
 use Rattle.picman.proofs.Keeps.{remarked-whole, remarked-size, remarked-lease, remarked-held}
 use Rattle.picman.proofs.Places.{placed-whole, placed-held, reference-place, highest-place, place-empty}

@@ -1,15 +1,13 @@
 -- The definition of a put on a whole state, case by case: what it gives under the tests that lead there.
 -- Assumes nothing.
 use Prim.Native.Nat.{ℕ, _≤_, _<_}
-use mathlib.Core.Path.{_≡_, ap}
-use mathlib.Core.Bool.{Bool, true, false, cond, _&&_}
+use mathlib.Core.Path.{_≡_}
+use mathlib.Core.Bool.{true, false}
 use mathlib.Core.List.{List}
-use lib.ListN.{getD}
 use borrow.Author.Tests.{lt-ltb, le-ltb}
-use Rattle.seq.specs.Lists.{highest}
 use Rattle.seq.specs.All.{cond-true, cond-false}
 use Rattle.def.specs.declared.{EvcPm.EvcPm, EvcRefP.EvcRefP, PutCall.PutCall, PmResult.PmResult, Answer.Answer, Refusal.Refusal}
-use Rattle.def.specs.State.{highestPoc, noSlot, isEmpty}
+use Rattle.def.specs.State.{highestPoc}
 use Rattle.picman.specs.Get.{refused}
 use Rattle.picman.specs.Put.{listed, placeFor, slotTaken, placedAt, place, putMarked}
 

@@ -8,8 +8,8 @@ use lib.Dec.{eqb, leb}
 use lib.ListN.{length, getD}
 use Rattle.seq.specs.Lists.{highest}
 use Rattle.def.specs.declared.{EvcPm.EvcPm, PutCall.PutCall, PmResult.PmResult, Answer.Answer, Refusal.Refusal}
-use Rattle.def.specs.State.{slots, listPlaces, highestPoc}
 use Rattle.keys.specs.declared.{Rest.Rest, Called.Called}
+use Rattle.def.specs.State.{slots, listPlaces, highestPoc}
 use Rattle.keys.specs.Keys.{keyPresent, keyWanted, keyEmpty, keyBuffer, keyBuffers, keyNumber, listsIn, stands, Sized, Comes, withLease}
 use Rattle.picman.specs.Put.{remarked, listed, placedAt}
 
