@@ -1,11 +1,11 @@
 -- What a list can hold: keys of the order, none twice, at most as many as the list limit and as there are keys.
 -- Assumes nothing.
 use mathlib.Core.Path.{_≡_, refl, sym, ap, _∙_, subst}
-use mathlib.Core.Bool.{Bool, true, false, cond, not, _&&_}
+use mathlib.Core.Bool.{Bool, true, false, cond, not}
 use mathlib.Core.Bool as Bool
 use mathlib.Core.List.{List, [], _∷_, _++_, append-nil, append-assoc, Sublistᴰ, Sublistᴰ·cons, Sublistᴰ·cons-cons, Sublistᴰ·nil-sublist, List·Memᴰ, List·Memᴰ·not-nil, List·Memᴰ·append-cases}
-use mathlib.Core.Logic.{_⊎_, inl, inr, ⊎-elim}
-use Prim.Native.Nat.{ℕ, zero, suc, _+_, _≤_}
+use mathlib.Core.Logic.{⊎-elim}
+use Prim.Native.Nat.{ℕ, _+_, _≤_}
 use native.Mathlib.Omega.{arith}
 use lib.Dec.{leb}
 use lib.ListN.{length, length-append}

@@ -9,9 +9,9 @@ use lib.ListN.{length, take, drop}
 use Rattle.seq.specs.Lists.{count}
 use Rattle.def.specs.State.{slots, listPlaces}
 use Rattle.def.specs.declared.Answer.{Answer}
-use Rattle.passes.specs.declared.{PassRule.PassRule, PassEnd.PassEnd, Walk.Walk}
+use Rattle.passes.specs.declared.{PassRule.PassRule, PassEnd.PassEnd}
 use Rattle.passes.specs.Order.{Key}
-use Rattle.passes.specs.Passes.{Ask, Passed, took, met-old, below, sideOf, walked, pass, bothWays, listOf}
+use Rattle.passes.specs.Passes.{Ask, Passed, took, met-old, below, sideOf, pass}
 use Rattle.passes.specs.Choice.{Chosen, turned-down, chosen}
 
 -- ---- keys

@@ -1,12 +1,12 @@
 -- What every copy does, each claim of specs/Claims.antt under its name. Assumes nothing.
-use mathlib.Core.Path.{_≡_, refl, sym, ap, _∙_, subst}
+use mathlib.Core.Path.{_≡_, refl, ap, subst}
 use mathlib.Core.Bool.{Bool, true, false, cond, _||_, or-true}
-use mathlib.Core.List.{List, List·Memᴰ}
-use mathlib.Core.Logic.{_⊎_, inl, inr}
-use Prim.Native.Nat.{ℕ, _+_, _*_, _≤_, _<_}
+use mathlib.Core.List.{List}
+use mathlib.Core.Logic.{inl, inr}
+use Prim.Native.Nat.{ℕ, _+_, _*_, _≤_}
 use native.Mathlib.Omega.{arith}
 use lib.Dec.{ltb, eqb}
-use lib.ListN.{length, getD, set}
+use lib.ListN.{getD, set}
 use borrow.Author.Tests.{ltb-true, ltb-false, lt-ltb, le-ltb, eqb-true, eq-eqb}
 use Rattle.seq.specs.Lists.{any, highest}
 use Rattle.seq.specs.All.{any-holds}

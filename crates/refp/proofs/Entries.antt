@@ -1,24 +1,24 @@
 -- An entry stored in its place of the rows, and all entries dropped: what is read back, and what stays. Assumes nothing.
-use Prim.Native.Nat.{ℕ, _+_, _-_, _*_, _%_, _<_, _≤_}
+use Prim.Native.Nat.{ℕ, _+_, _-_, _*_, _<_, _≤_}
 use mathlib.Core.Path.{_≡_, refl, sym, ap, _∙_, subst}
 use mathlib.Core.Bool.{Bool, true, false}
-use mathlib.Core.List.{List, [], _++_, map, append-assoc}
+use mathlib.Core.List.{List, _++_, map, append-assoc}
 use mathlib.Core.Logic.{_⊎_, inl, inr, ⊎-elim}
 use native.Mathlib.Omega.{arith}
 use lib.Dec.{eqb, lit≤}
-use lib.ListN.{length, getD, set, take, drop, replicate, length-set, length-map, length-replicate, getD-replicate, List·getD-append}
+use lib.ListN.{length, getD, set, take, drop, replicate, length-set, length-map, getD-replicate, List·getD-append}
 use lib.Seq.{paste, ext-getD, getD-take, getD-set-same, getD-set-other, drop-set-lt, drop-set-add, take-set-le, length-take-le, length-paste}
 use borrow.Author.Tests.{eqb-true, eqb-false}
-use Rattle.seq.specs.Table.{entries, entry}
+use Rattle.seq.specs.Table.{entry}
 use Rattle.seq.specs.Fills.{length-entries}
 use Rattle.seq.specs.Maps.{map-at}
 use Rattle.seq.specs.Numbers.{lt-or-ge}
 use Rattle.def.specs.State.{listPlaces, noRefP}
 use Rattle.def.specs.declared.EvcRefP.{EvcRefP}
-use Rattle.keys.specs.Keys.{rowLength, headRow, numberRow, entryRow, rowsLength, rowCount, rowAt, headAt, numberAt, entryAt, listsIn}
+use Rattle.keys.specs.Keys.{rowLength, headRow, numberRow, entryRow, rowsLength, rowAt, headAt, numberAt, entryAt, listsIn}
 use Rattle.keys.proofs.RowLaws.{row-other, row-number, row-length, row-whole}
 use Rattle.refp.specs.Lists.{dropped}
-use Rattle.refp.specs.Running.{entryWith, PicturesStay, EntryStored, Dropped}
+use Rattle.refp.specs.Running.{entryWith, EntryStored, Dropped}
 
 same-or-other : (i j : ℕ) → (i ≡ j) ⊎ (i ≡ j → ⊥)
 same-or-other i j = pick (eqb i j) refl

@@ -3,13 +3,13 @@
 use mathlib.Core.Path.{_≡_, refl, sym, ap, _∙_, subst}
 use mathlib.Core.Bool.{Bool, true, false, cond, not}
 use mathlib.Core.Bool as Bool
-use mathlib.Core.List.{List, [], _∷_, map, List·Memᴰ}
-use Prim.Native.Nat.{ℕ, _+_, _≤_, _<_}
+use mathlib.Core.List.{List, [], _∷_, List·Memᴰ}
+use Prim.Native.Nat.{ℕ, _+_, _≤_}
 use native.Mathlib.Omega.{arith}
 use lib.Dec.{ltb, eqb}
 use lib.ListN.{length, getD}
 use borrow.Author.Tests.{ltb-true, ltb-false, lt-ltb, le-ltb, eqb-true, eqb-false, eq-eqb, ne-eqb}
-use Rattle.seq.specs.Lists.{count, Distinct}
+use Rattle.seq.specs.Lists.{count}
 use Rattle.seq.specs.Distinct.{distinct-map}
 use Rattle.def.specs.State.{listPlaces, highestPoc, noSlot, isMarked, withCounts}
 use Rattle.def.specs.declared.{Slot.Slot, EvcPm.EvcPm, EvcRefP.EvcRefP, RefpCall.RefpCall, RefpResult.RefpResult, Answer.Answer, Refusal.Refusal}
@@ -17,7 +17,7 @@ use Rattle.whole.specs.Whole.{whole}
 use Rattle.whole.specs.Laws.{whole-rules, rules-whole}
 use Rattle.passes.specs.Order.{Key, keyOf, down, MarkedKey}
 use Rattle.passes.specs.Passes.{Passed, took, met-old}
-use Rattle.passes.specs.Choice.{Chosen, turned-down, chosen, isB, forwardOf, backwardOf, withBackward, withForward, choice, Backward, of-b, of-other, Accepted}
+use Rattle.passes.specs.Choice.{turned-down, chosen, isB, forwardOf, backwardOf, withBackward, withForward, choice, of-b, of-other, Accepted}
 use Rattle.passes.proofs.OrderLaws.{down-length, down-members, down-distinct}
 use Rattle.passes.proofs.Taken.{Taken}
 use Rattle.passes.proofs.Accepted.{forward-taken, backward-taken}

@@ -105,7 +105,8 @@ ListsBuilt =
 -- There is no such place: count over 20, or list not 0 or 1. Same number: one of the first entries of the list has it.
 pub data CopyReason (refp : List EvcRefP) (cnt lidx : ℕ) (src : EvcRefP) : Refusal → Type 0 where
   no-place : (20 < cnt) ⊎ (1 < lidx) → CopyReason refp cnt lidx src Refusal.NoSuchPlace
-  same-number : cnt ≤ 20 → lidx ≤ 1 → (e : EvcRefP) → List·Memᴰ e (firstEntries refp cnt lidx) → e .poc ≡ src .poc → CopyReason refp cnt lidx src Refusal.SameNumber
+  same-number : cnt ≤ 20 → lidx ≤ 1 → (e : EvcRefP) → List·Memᴰ e (firstEntries refp cnt lidx) → e .poc ≡ src .poc
+      → CopyReason refp cnt lidx src Refusal.SameNumber
 
 abbrev pub CopyWhy : Type 0
 CopyWhy =

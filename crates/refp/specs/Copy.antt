@@ -1,7 +1,7 @@
 -- The copy of one entry (`check_copy_refp`): it goes to place `cnt` of one list unless its number stands before that.
 -- Assumes nothing.
 use Prim.Native.Nat.{ℕ, _+_, _*_}
-use mathlib.Core.Bool.{Bool, cond, _||_}
+use mathlib.Core.Bool.{cond, _||_}
 use mathlib.Core.List.{List}
 use lib.Dec.{ltb, eqb}
 use lib.ListN.{set, take, drop}
