@@ -9,6 +9,7 @@ use def::CopyResult;
 use def::EvcPm;
 use def::EvcRefP;
 use def::PmResult;
+use def::PutCall;
 use def::REFP_PLACES;
 use def::RefpCall;
 use def::RefpResult;
@@ -27,6 +28,10 @@ ghost use mathlib.Core.Bool.{true};
 ghost use Rattle.def.specs.declared.Refusal.{Refusal};
 ghost use Rattle.keys.specs.Keys.{stands, listsIn, Sized};
 ghost use Rattle.whole.specs.Whole.{whole};
+ghost use Rattle.picman.specs.Get.{refused, get};
+ghost use Rattle.picman.specs.Init.{init};
+ghost use Rattle.picman.specs.Put.{put};
+ghost use Rattle.picman.specs.Out.{out};
 ghost use Rattle.refp.specs.Lists.{lists};
 ghost use Rattle.refp.specs.Copy.{copy};
 ghost use Rattle.entry.specs.Entry.{Opens};
@@ -46,6 +51,16 @@ fn open_state(pm: EvcPm, keys: &mut [u64], rows: &mut [u32]) -> Opened
     Opened { is_whole, rest }
 }
 
+// A state that is not whole, as it came.
+fn not_whole(pm: EvcPm) -> PmResult
+    ensures { λ r. ⌜ r ≡ refused Refusal.StateNotWhole pm ⌝ }
+{
+    PmResult {
+        answer: Answer::Refused(Refusal::StateNotWhole),
+        pm,
+    }
+}
+
 // A call's answer with the state after it.
 fn finished(keys: &[u64], rows: &[u32], called: Called) -> PmResult
     requires { ⌜ Sized (now keys) (now rows) × (whole (stands (now keys) (now rows) (called .rest)) ≡ true) ⌝ }
@@ -54,6 +69,60 @@ fn finished(keys: &[u64], rows: &[u32], called: Called) -> PmResult
     let answer = called.answer;
     let pm = put_together(keys, rows, called.rest);
     PmResult { answer, pm }
+}
+
+pub fn evc_picman_init(pm: EvcPm, max_pb_size: u8, max_num_ref_pics: u8) -> PmResult
+    ensures { λ r. ⌜ r ≡ init pm «max_pb_size» «max_num_ref_pics» ⌝ }
+{
+    let mut keys = [0u64; SLOTS];
+    let mut rows = [0u32; ROWS];
+    let state = open_state(pm, &mut keys, &mut rows);
+    if !state.is_whole {
+        return not_whole(pm);
+    }
+    let called = picman::init::init(state.rest, max_pb_size, max_num_ref_pics);
+    finished(&keys, &rows, called)
+}
+
+pub fn evc_picman_get_empty_pic(pm: EvcPm) -> PmResult
+    ensures { λ r. ⌜ r ≡ get pm ⌝ }
+{
+    let mut keys = [0u64; SLOTS];
+    let mut rows = [0u32; ROWS];
+    let state = open_state(pm, &mut keys, &mut rows);
+    if !state.is_whole {
+        return not_whole(pm);
+    }
+    let called = picman::get::get(&mut keys, &mut rows, state.rest);
+    finished(&keys, &rows, called)
+}
+
+pub fn evc_picman_put_pic(pm: EvcPm, refp: [EvcRefP; REFP_PLACES], call: PutCall) -> PmResult
+    ensures { λ r. ⌜ r ≡ put pm refp call ⌝ }
+{
+    let mut keys = [0u64; SLOTS];
+    let mut rows = [0u32; ROWS];
+    take_lists(refp, &mut rows);
+    let state = open_state(pm, &mut keys, &mut rows);
+    if !state.is_whole {
+        return not_whole(pm);
+    }
+    let mut next = [0u64; SLOTS];
+    let called = picman::put::put(&mut keys, &mut rows, &mut next, state.rest, call);
+    finished(&keys, &rows, called)
+}
+
+pub fn evc_picman_out_pic(pm: EvcPm) -> PmResult
+    ensures { λ r. ⌜ r ≡ out pm ⌝ }
+{
+    let mut keys = [0u64; SLOTS];
+    let mut rows = [0u32; ROWS];
+    let state = open_state(pm, &mut keys, &mut rows);
+    if !state.is_whole {
+        return not_whole(pm);
+    }
+    let called = picman::out::out(&mut keys, state.rest);
+    finished(&keys, &rows, called)
 }
 
 pub fn evc_picman_refp_init(pm: EvcPm, refp: [EvcRefP; REFP_PLACES], call: RefpCall) -> RefpResult
