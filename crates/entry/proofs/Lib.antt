@@ -1,3 +1,3 @@
-pub mod Entries
+pub mod EntryLaws
 pub mod Opening
 pub mod Calling
