@@ -60,12 +60,12 @@ fn put_nothing(keys: &mut [u64], next: &mut [u64], rest: Rest, call: PutCall) ->
             rest,
         };
     }
-    let mut after = rest;
-    after.cur_num_ref_pics = remark(keys, next, call);
+    let mut marked = rest;
+    marked.cur_num_ref_pics = remark(keys, next, call);
     copy_keys(next, keys);
     Called {
         answer: Answer::Done,
-        rest: after,
+        rest: marked,
     }
 }
 
@@ -149,10 +149,10 @@ fn place_unmarked(keys: &mut [u64], rows: &mut [u32], rest: Rest, call: PutCall)
         ⌜ Calls r (now (keys .entry)) (now (rows .entry)) rest (now (keys .exit)) (now (rows .exit)) (place before before (listsIn (now (rows .entry))) call) ⌝ }
 {
     let pos = place_for(keys, rest.cur_num_ref_pics, call.ref_pic);
-    if SLOTS <= pos {
-        return refuse(rest, Refusal::SlotTaken);
+    if pos < SLOTS {
+        return picman_set_pic_to_pb(keys, rows, rest, call, pos);
     }
-    picman_set_pic_to_pb(keys, rows, rest, call, pos)
+    refuse(rest, Refusal::SlotTaken)
 }
 
 // On a whole state.
