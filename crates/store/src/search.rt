@@ -24,7 +24,7 @@ pub fn lowest_idle(keys: &[u64]) -> usize
         }
         i = i + 1;
     }
-    i
+    SLOTS
 }
 
 // The highest empty slot; 0 where none is empty.

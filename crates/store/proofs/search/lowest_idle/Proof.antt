@@ -49,7 +49,7 @@ loop-again c =
 returns-2 : tie.Need-returns-2 Inv-loop μ-loop
 returns-2 c =
     let l = c .before .loop in
-    sym (lowest-end 0 keyIdle (c .before .before .before .args .keys .now) (l .i) (omega arith)) ∙ l .inv .2
+    omega (arith, lowest-end 0 keyIdle (c .before .before .before .args .keys .now) (l .i) (omega arith))
 
 pub lowest-idle-spec : {M : Type 1} → statement M
 lowest-idle-spec =

@@ -1,0 +1,3 @@
+pub mod EntryLaws
+pub mod Opening
+pub mod Calling

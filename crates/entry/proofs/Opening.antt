@@ -1,0 +1,63 @@
+-- A state that came and was opened: it is handed back where it is not whole, and else the core has worked on it.
+-- Assumes nothing.
+use mathlib.Core.Path.{_≡_, refl, sym, ap, ap₂, _∙_}
+use mathlib.Core.Bool.{Bool, true, false}
+use mathlib.Core.List.{List}
+use Prim.Native.Nat.{ℕ}
+use lib.ListN.{length, length-map}
+use Rattle.def.specs.State.{slots}
+use Rattle.def.specs.declared.{EvcPm.EvcPm, EvcRefP.EvcRefP, RefpCall.RefpCall, RefpResult.RefpResult, CopyResult.CopyResult, Answer.Answer, Refusal.Refusal}
+use Rattle.keys.specs.declared.{Called.Called}
+use Rattle.keys.specs.Keys.{slotAt, listsIn, stands, Sized, ComesLists}
+use Rattle.whole.specs.Whole.{whole}
+use Rattle.refp.specs.Lists.{refused, lists, listsWhole}
+use Rattle.refp.specs.Copy.{copy}
+use Rattle.refp.specs.Running.{entryWith, CopyCame}
+use Rattle.refp.proofs.ListLaws.{lists-stay-whole}
+use Rattle.entry.specs.declared.{Opened.Opened}
+use Rattle.entry.specs.Entry.{Opens}
+
+module _ {pm : EvcPm} {refp : List EvcRefP} {keys rows : List ℕ} {o : Opened} (p : Opens pm refp keys rows o) where
+  pub came-whole : o .«is_whole» ≡ true → whole pm ≡ true
+  came-whole e = sym (p .tells) ∙ e
+
+  pub came-broken : o .«is_whole» ≡ false → whole pm ≡ false
+  came-broken e = sym (p .tells) ∙ e
+
+  pub opened-is : o .«is_whole» ≡ true → stands keys rows (o .rest) ≡ pm
+  opened-is e = p .stands-for (came-whole e)
+
+  pub opened-whole : o .«is_whole» ≡ true → whole (stands keys rows (o .rest)) ≡ true
+  opened-whole e = ap whole (opened-is e) ∙ came-whole e
+
+  pub came-long : o .«is_whole» ≡ true → length (pm .pic) ≡ slots
+  came-long e = ap (λ (q : EvcPm). length (q .pic)) (sym (opened-is e)) ∙ length-map keys (slotAt rows) ∙ p .sized .slots-long
+
+-- ---- a list call
+
+module _ {pm : EvcPm} {refp : List EvcRefP} {keys rows : List ℕ} {o : Opened} (p : Opens pm refp keys rows o) (c : RefpCall) where
+  pub lists-turned-away : o .«is_whole» ≡ false → refused Refusal.StateNotWhole pm refp ≡ lists pm refp c
+  unfolding lists
+  lists-turned-away e = rw (came-broken p e) refl
+
+  whole-lists : whole pm ≡ true → lists pm refp c ≡ listsWhole pm refp c
+  unfolding lists
+  whole-lists w = rw w refl
+
+  module _ (e : o .«is_whole» ≡ true) {r : Called} {after : List ℕ} (came : ComesLists r keys after (listsWhole (stands keys rows (o .rest)) (listsIn rows) c)) where
+    on-whole : lists pm refp c ≡ listsWhole (stands keys rows (o .rest)) (listsIn rows) c
+    on-whole =
+        whole-lists (came-whole p e) ∙ ap₂ (λ (q : EvcPm) (es : List EvcRefP). listsWhole q es c) (sym (opened-is p e)) (sym (p .lists-stay))
+
+    pub lists-still-whole : whole (stands keys after (r .rest)) ≡ true
+    lists-still-whole =
+        ap whole (came .lists-stand-for ∙ ap (λ (x : RefpResult). x .pm) (sym on-whole)) ∙ lists-stay-whole pm refp c (came-whole p e)
+
+    pub lists-come-to : record { answer = r .answer; pm = stands keys after (r .rest); refp = listsIn after } ≡ lists pm refp c
+    lists-come-to = rw (came .lists-answers, came .lists-stand-for, came .lists-are) (sym on-whole)
+
+-- ---- a copy
+
+pub copy-comes-to : (answer : Answer) (refp : List EvcRefP) (rows after : List ℕ) (cnt lidx : ℕ) (e : EvcRefP) → listsIn rows ≡ refp
+    → CopyCame answer rows after (copy (listsIn rows) cnt lidx e) → record { answer = answer; refp = listsIn after } ≡ copy refp cnt lidx e
+copy-comes-to answer refp rows after cnt lidx e same came = rw (came .answers, came .lists-are) (ap (λ (x : List EvcRefP). copy x cnt lidx e) same)

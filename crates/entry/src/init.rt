@@ -1,0 +1,23 @@
+// Init by value: the two limits, step 1 and no lease.
+use crate::finished;
+use crate::not_whole;
+use crate::open_state;
+use def::EvcPm;
+use def::PmResult;
+use keys::ROWS;
+use keys::SLOTS;
+ghost use mathlib.Core.Path.{_≡_};
+ghost use Rattle.picman.specs.Init.{init};
+
+pub fn evc_picman_init(pm: EvcPm, max_pb_size: u8, max_num_ref_pics: u8) -> PmResult
+    ensures { λ r. ⌜ r ≡ init pm «max_pb_size» «max_num_ref_pics» ⌝ }
+{
+    let mut keys = [0u64; SLOTS];
+    let mut rows = [0u32; ROWS];
+    let state = open_state(pm, &mut keys, &mut rows);
+    if !state.is_whole {
+        return not_whole(pm);
+    }
+    let called = picman::init::init(state.rest, max_pb_size, max_num_ref_pics);
+    finished(&keys, &rows, called)
+}

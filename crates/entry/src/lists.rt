@@ -1,0 +1,45 @@
+// The reference lists of a slice, by value.
+use crate::entries::put_lists;
+use crate::entries::take_lists;
+use crate::finished;
+use crate::open_state;
+use def::Answer;
+use def::EvcPm;
+use def::EvcRefP;
+use def::REFP_PLACES;
+use def::RefpCall;
+use def::RefpResult;
+use def::Refusal;
+use keys::PLACES;
+use keys::ROWS;
+use keys::SLOTS;
+ghost use mathlib.Core.Path.{_≡_};
+ghost use Rattle.refp.specs.Lists.{lists};
+
+pub fn evc_picman_refp_init(pm: EvcPm, refp: [EvcRefP; REFP_PLACES], call: RefpCall) -> RefpResult
+    ensures { λ r. ⌜ r ≡ lists pm refp call ⌝ }
+{
+    let mut keys = [0u64; SLOTS];
+    let mut rows = [0u32; ROWS];
+    take_lists(refp, &mut rows);
+    let state = open_state(pm, &mut keys, &mut rows);
+    if !state.is_whole {
+        return RefpResult {
+            answer: Answer::Refused(Refusal::StateNotWhole),
+            pm,
+            refp,
+        };
+    }
+    let mut pic_ref = [0u64; SLOTS];
+    let mut list = [0u64; PLACES];
+    let called = refp::refp_init(&keys, &mut rows, &mut pic_ref, &mut list, state.rest, call);
+    let done = finished(&keys, &rows, called);
+    let answer = done.answer;
+    let after = done.pm;
+    let filled = put_lists(&rows);
+    RefpResult {
+        answer,
+        pm: after,
+        refp: filled,
+    }
+}
