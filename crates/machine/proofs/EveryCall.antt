@@ -160,7 +160,6 @@ seven-answer call NoMore e = absurd (omega arith)
 seven-answer call (Counts n m) e = absurd (omega arith)
 seven-answer call (Refused why) e = ap Refused (is-seven why e)
 
-
 seven-number : (a : PocAnswer) → derivedReply 6 a .status ≡ 7 → a ≡ poc.Refused StateNotWhole
 seven-number (poc.Derived n) e = absurd (omega arith)
 seven-number (poc.Refused why) e = ap poc.Refused (is-seven why e)

@@ -105,8 +105,8 @@ module _ (keys rows : List ℕ) (s : Scalars) (call : ℕ) where
         machine-is = rw (pm-is, c .lists-stay) refl;
         still-sized = c .still-sized;
         refused-leaves = λ t. refused-answer call (r .answer) t (λ why a.
-        let u = calls .untouched why a in
-        record { same-keys = u .same-keys; same-rows = u .same-rows; same-scalars = rest-stays r (u .same-rest) });
+            let u = calls .untouched why a in
+            record { same-keys = u .same-keys; same-rows = u .same-rows; same-scalars = rest-stays r (u .same-rest) });
       })
 
   -- A call on state and lists.
@@ -122,8 +122,8 @@ module _ (keys rows : List ℕ) (s : Scalars) (call : ℕ) where
         machine-is = rw (pm-is, refp-is) refl;
         still-sized = c .lists-sized;
         refused-leaves = λ t. refused-answer call (r .answer) t (λ why a.
-        let u = came .refused-leaves why a in
-        record { same-keys = refl; same-rows = u .0; same-scalars = rest-stays r (u .1) });
+            let u = came .refused-leaves why a in
+            record { same-keys = refl; same-rows = u .0; same-scalars = rest-stays r (u .1) });
       })
 
 -- A derivation.
@@ -134,7 +134,7 @@ record-makes keys rows s L t sized e = rw e (record {
   machine-is = refl;
   still-sized = sized;
   refused-leaves = λ d. refused-number (derive L t (s .poc) .answer) d (λ why a.
-  record { same-keys = refl; same-rows = refl; same-scalars = ap (λ (p : EvcPoc). record { rest = s .rest; poc = p }) (derive-refused L t (s .poc) why a) });
+      record { same-keys = refl; same-rows = refl; same-scalars = ap (λ (p : EvcPoc). record { rest = s .rest; poc = p }) (derive-refused L t (s .poc) why a) });
 })
 
 -- A call on a machine that runs leaves one that runs.

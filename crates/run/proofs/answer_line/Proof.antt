@@ -35,13 +35,13 @@ same-length-2 : tie.Need-same-length-2
 same-length-2 c = search needs
 
 returns : tie.Need-returns
-returns c = 
+returns c =
     let called = c .before .before .before .before in
     let at-line = called .before .before .before .before in
     by-line (at-line .line .given .1) (good-line _ (called .make-call .ensures))
 
 returns-2 : tie.Need-returns-2
-returns-2 c = 
+returns-2 c =
     let told = c .before in
     let s = told .before .before .before .before in
     by-line (told .enum-told .given .1) (bad-makes (c .bad-line .result) (s .pre) (c .bad-line .ensures))

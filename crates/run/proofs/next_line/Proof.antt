@@ -29,7 +29,7 @@ returns-2 : tie.Need-returns-2
 returns-2 c = search needs
 
 returns-3 : tie.Need-returns-3
-returns-3 c = 
+returns-3 c =
     let at-found = c .before in
     let at-read = at-found .before .before in
     let at-else = at-read .before in

@@ -9,7 +9,7 @@ use Rattle.run.proofs.run_end.Statement.{statement}
 use Rattle.run.proofs.run_end.Tie as tie
 
 returns : tie.Need-returns
-returns c = 
+returns c =
     let s = c .before .before .before .before .before .before in
     let a = s .args in
     end-none (a .keys .now) (a .rows .now) (a .session) (a .out .now) (c .if1 .taken)
@@ -33,7 +33,7 @@ same-length-3 : tie.Need-same-length-3
 same-length-3 c = search needs
 
 returns-2 : tie.Need-returns-2
-returns-2 c = 
+returns-2 c =
     let wrote = c .before .before in
     let answered = wrote .before .before .before .before .before .before .before in
     let at-else = answered .before .before .before .before .before in

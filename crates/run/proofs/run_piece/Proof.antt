@@ -60,12 +60,12 @@ abbrev wrote : tie.After-no-line Inv-loop μ-loop → tie.After-write-reply Inv-
 wrote c = c .before .before .before
 
 next-line-requires : tie.Need-next-line-requires Inv-loop μ-loop
-next-line-requires c κs = 
+next-line-requires c κs =
     let s = c .before .before .before .before .before .before in
     (s .pre .tables-are, s .pre .sound .room, omega arith)
 
 loop-holds : tie.Need-loop-holds Inv-loop μ-loop
-loop-holds c = 
+loop-holds c =
     let s = c .before .before .before .before .before .before .before in
     (begin _ _ _ _ (s .pre .answers-fit), s .pre .sound .runs, s .pre .sound .room, s .pre .tables-are, c .next-line .ensures)
 
@@ -73,7 +73,7 @@ answer-line-requires : tie.Need-answer-line-requires Inv-loop μ-loop
 answer-line-requires c κs = c .before .before .before .loop .inv .1
 
 write-reply-requires : tie.Need-write-reply-requires Inv-loop μ-loop
-write-reply-requires c κs = 
+write-reply-requires c κs =
     let turn = answered (c .before .before .before .before .before .before .before) in
     let l = turn .before .loop in
     (l .inv .3, fits (l .inv .0) (in-piece (l .inv .4) (turn .loop-test .taken)))
@@ -82,7 +82,7 @@ no-line-requires : tie.Need-no-line-requires Inv-loop μ-loop
 no-line-requires c κs = search needs
 
 next-line-requires-2 : tie.Need-next-line-requires-2 Inv-loop μ-loop
-next-line-requires-2 c κs = 
+next-line-requires-2 c κs =
     let turn = answered (wrote c .before .before .before .before .before .before .before .before) in
     let l = turn .before .loop in
     let n = l .inv .4 .behind (turn .loop-test .taken) in
@@ -90,7 +90,7 @@ next-line-requires-2 c κs =
     (l .inv .3, c .no-line .ensures .1, omega arith)
 
 loop-less : tie.Need-loop-less Inv-loop μ-loop
-loop-less c = 
+loop-less c =
     let turn = answered (wrote (c .before) .before .before .before .before .before .before .before .before) in
     let l = turn .before .loop in
     let n = l .inv .4 .behind (turn .loop-test .taken) in
@@ -99,7 +99,7 @@ loop-less c =
     omega arith
 
 loop-again : tie.Need-loop-again Inv-loop μ-loop
-loop-again c = 
+loop-again c =
     let w = wrote (c .before) in
     let called = w .before .before .before .before .before .before .before .before in
     let turn = answered called in
@@ -137,7 +137,7 @@ same-length-3 : tie.Need-same-length-3 Inv-loop μ-loop
 same-length-3 c = c .before .before .before .loop .inv .0 .out-size
 
 returns : tie.Need-returns Inv-loop μ-loop
-returns c = 
+returns c =
     let a = c .before .before .before in
     let l = a .loop in
     let g = l .inv .0 in

@@ -18,7 +18,7 @@ line-end-requires : tie.Need-line-end-requires
 line-end-requires c κs = search needs
 
 returns : tie.Need-returns
-returns c = 
+returns c =
     let e = c .before .line-end .ensures in
     let l = c .if1 .taken in
     record {
@@ -43,7 +43,7 @@ add-t6 : tie.Need-add-t6
 add-t6 c = let l = c .before .before .if1 .left in omega arith
 
 returns-2 : tie.Need-returns-2
-returns-2 c = 
+returns-2 c =
     let at-else = c .before .before in
     let at-end = at-else .before in
     let s = at-end .before .before in

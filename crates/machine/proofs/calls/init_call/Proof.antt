@@ -11,7 +11,7 @@ made-requires : tie.Need-made-requires
 made-requires c κs = search needs
 
 returns : tie.Need-returns
-returns c = 
+returns c =
     let s = c .before .before .before .before .before .before in
     let a = s .args in
     let runs = s .pre in

@@ -70,7 +70,7 @@ same-length-4 c = search needs
 
 returns-2 : tie.Need-returns-2
 unfolding step
-returns-2 c = 
+returns-2 c =
     let called = c .before .before .before .before in
     by-call (called .before .before .before .enum-told .given .1) (called .get-call .ensures)
 
@@ -82,7 +82,7 @@ same-length-6 c = search needs
 
 returns-3 : tie.Need-returns-3
 unfolding step
-returns-3 c = 
+returns-3 c =
     let called = c .before .before .before .before in
     let read = called .before in
     let a = read .before .before .before .before .before .before .before .before .args in
@@ -99,7 +99,7 @@ same-length-8 c = search needs
 
 returns-4 : tie.Need-returns-4
 unfolding step
-returns-4 c = 
+returns-4 c =
     let called = c .before .before in
     by-call (called .before .before .before .enum-told2 .given .1) (called .out-call .ensures)
 
@@ -111,7 +111,7 @@ same-length-10 c = search needs
 
 returns-5 : tie.Need-returns-5
 unfolding step
-returns-5 c = 
+returns-5 c =
     let called = c .before .before in
     let read = called .before in
     let a = read .before .before .before .before .before .before .before .before .args in
@@ -122,7 +122,7 @@ returns-5 c =
 
 returns-6 : tie.Need-returns-6
 unfolding step
-returns-6 c = 
+returns-6 c =
     let at-call = c .before .before in
     let s = at-call .before .before .before .before in
     by-call (at-call .call4 .given .1) (record-makes (s .args .keys .now) (s .args .rows .now) (s .args .s) _ _ (s .pre .sized) (c .poc-call .ensures))

@@ -6,7 +6,7 @@ use Rattle.machine.proofs.calls.out_call.Statement.{statement}
 use Rattle.machine.proofs.calls.out_call.Tie as tie
 
 out-requires : tie.Need-out-requires
-out-requires c κs = 
+out-requires c κs =
     let s = c .before .before .before .before .before in
     let a = s .args in
     (s .pre .sized .slots-long, numbers-fit (a .keys .now) (a .rows .now) (a .s .rest) (s .pre .sized .slots-long) (s .pre .whole-state))
@@ -18,7 +18,7 @@ same-length : tie.Need-same-length
 same-length c = search needs
 
 returns : tie.Need-returns
-returns c = 
+returns c =
     let called = c .before .before .before in
     let s = called .before .before .before .before .before .before in
     let a = s .args in

@@ -15,7 +15,7 @@ same-length : tie.Need-same-length
 same-length c = search needs
 
 returns : tie.Need-returns
-returns c = 
+returns c =
     let called = c .before .before .before in
     let s = c .before .before .before .before .before .before .before .before .before .before .before in
     let a = s .args in
