@@ -1,19 +1,19 @@
-// One call on any machine: the entry points test the state first.
-use crate::Machine;
-use crate::Stepped;
-use crate::fields::derived_reply;
-use crate::fields::put_call_of;
-use crate::fields::refp_call_of;
+// One call on any machine by value, for the image that the library lends: the entry points by value test the state first.
 use def::PmResult;
 use def::PutCall;
 use def::RefpCall;
+use entry::get::evc_picman_get_empty_pic;
+use entry::init::evc_picman_init;
+use entry::lists::evc_picman_refp_init;
+use entry::out::evc_picman_out_pic;
+use entry::put::evc_picman_put_pic;
 use line::Call;
 use line::reply_of;
-use picman::get::evc_picman_get_empty_pic;
-use picman::init::evc_picman_init;
-use picman::lists::evc_picman_refp_init;
-use picman::out::evc_picman_out_pic;
-use picman::put::evc_picman_put_pic;
+use machine::Machine;
+use machine::Stepped;
+use machine::fields::derived_reply;
+use machine::fields::put_call_of;
+use machine::fields::refp_call_of;
 use poc::poc_derivation;
 ghost use mathlib.Core.Path.{_≡_};
 ghost use Rattle.poc.specs.PictureNumber.{derive};

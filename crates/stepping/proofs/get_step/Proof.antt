@@ -1,9 +1,9 @@
--- `machine::step::get_step` meets its contract. Assumes nothing.
+-- `stepping::get_step` meets its contract. Assumes nothing.
 use mathlib.Core.Path.{ap, _∙_}
 use Rattle.machine.specs.Step.{onState}
 use borrow.Author.Needs.{needs}
-use Rattle.machine.proofs.step.get_step.Statement.{statement}
-use Rattle.machine.proofs.step.get_step.Tie as tie
+use Rattle.stepping.proofs.get_step.Statement.{statement}
+use Rattle.stepping.proofs.get_step.Tie as tie
 
 evc-picman-get-empty-pic-requires : tie.Need-evc-picman-get-empty-pic-requires
 evc-picman-get-empty-pic-requires c κs = search needs

@@ -1,9 +1,9 @@
--- `machine::step::init_step` meets its contract. Assumes nothing.
+-- `stepping::init_step` meets its contract. Assumes nothing.
 use mathlib.Core.Path.{ap, _∙_}
 use Rattle.machine.specs.Step.{onState}
 use borrow.Author.Needs.{needs}
-use Rattle.machine.proofs.step.init_step.Statement.{statement}
-use Rattle.machine.proofs.step.init_step.Tie as tie
+use Rattle.stepping.proofs.init_step.Statement.{statement}
+use Rattle.stepping.proofs.init_step.Tie as tie
 
 evc-picman-init-requires : tie.Need-evc-picman-init-requires
 evc-picman-init-requires c κs = search needs

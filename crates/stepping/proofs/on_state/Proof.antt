@@ -1,7 +1,7 @@
--- `machine::step::on_state` meets its contract. Assumes nothing.
+-- `stepping::on_state` meets its contract. Assumes nothing.
 use borrow.Author.Needs.{needs}
-use Rattle.machine.proofs.step.on_state.Statement.{statement}
-use Rattle.machine.proofs.step.on_state.Tie as tie
+use Rattle.stepping.proofs.on_state.Statement.{statement}
+use Rattle.stepping.proofs.on_state.Tie as tie
 
 reply-of-requires : tie.Need-reply-of-requires
 reply-of-requires c κs = search needs

@@ -1,9 +1,9 @@
--- `machine::step::out_step` meets its contract. Assumes nothing.
+-- `stepping::out_step` meets its contract. Assumes nothing.
 use mathlib.Core.Path.{ap, _∙_}
 use Rattle.machine.specs.Step.{onState}
 use borrow.Author.Needs.{needs}
-use Rattle.machine.proofs.step.out_step.Statement.{statement}
-use Rattle.machine.proofs.step.out_step.Tie as tie
+use Rattle.stepping.proofs.out_step.Statement.{statement}
+use Rattle.stepping.proofs.out_step.Tie as tie
 
 evc-picman-out-pic-requires : tie.Need-evc-picman-out-pic-requires
 evc-picman-out-pic-requires c κs = search needs

@@ -1,9 +1,9 @@
--- `machine::step::poc_step` meets its contract. Assumes nothing.
+-- `stepping::poc_step` meets its contract. Assumes nothing.
 use mathlib.Core.Path.{ap}
 use Rattle.machine.specs.Step.{onRecord}
 use borrow.Author.Needs.{needs}
-use Rattle.machine.proofs.step.poc_step.Statement.{statement}
-use Rattle.machine.proofs.step.poc_step.Tie as tie
+use Rattle.stepping.proofs.poc_step.Statement.{statement}
+use Rattle.stepping.proofs.poc_step.Tie as tie
 
 poc-derivation-requires : tie.Need-poc-derivation-requires
 poc-derivation-requires c κs = search needs

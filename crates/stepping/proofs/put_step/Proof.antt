@@ -1,9 +1,9 @@
--- `machine::step::put_step` meets its contract. Assumes nothing.
+-- `stepping::put_step` meets its contract. Assumes nothing.
 use mathlib.Core.Path.{ap, _∙_}
 use Rattle.machine.specs.Step.{onState}
 use borrow.Author.Needs.{needs}
-use Rattle.machine.proofs.step.put_step.Statement.{statement}
-use Rattle.machine.proofs.step.put_step.Tie as tie
+use Rattle.stepping.proofs.put_step.Statement.{statement}
+use Rattle.stepping.proofs.put_step.Tie as tie
 
 evc-picman-put-pic-requires : tie.Need-evc-picman-put-pic-requires
 evc-picman-put-pic-requires c κs = search needs

@@ -1,9 +1,9 @@
--- `machine::step::refp_step` meets its contract. Assumes nothing.
+-- `stepping::refp_step` meets its contract. Assumes nothing.
 use mathlib.Core.Path.{ap}
 use Rattle.machine.specs.Step.{onLists}
 use borrow.Author.Needs.{needs}
-use Rattle.machine.proofs.step.refp_step.Statement.{statement}
-use Rattle.machine.proofs.step.refp_step.Tie as tie
+use Rattle.stepping.proofs.refp_step.Statement.{statement}
+use Rattle.stepping.proofs.refp_step.Tie as tie
 
 evc-picman-refp-init-requires : tie.Need-evc-picman-refp-init-requires
 evc-picman-refp-init-requires c κs = search needs

@@ -1,13 +1,13 @@
--- `machine::step::step` meets its contract, call by call. Assumes nothing.
+-- `stepping::step` meets its contract, call by call. Assumes nothing.
 use mathlib.Core.Path.{sym, ap, _∙_}
 use Rattle.def.specs.declared.PutCall.{PutCall}
 use Rattle.def.specs.declared.RefpCall.{RefpCall}
 use Rattle.refp.specs.Lists.{lists}
 use Rattle.picman.specs.Put.{put}
 use Rattle.machine.specs.Step.{onState, onLists, step}
 use borrow.Author.Needs.{needs}
-use Rattle.machine.proofs.step.step.Statement.{statement}
-use Rattle.machine.proofs.step.step.Tie as tie
+use Rattle.stepping.proofs.step.Statement.{statement}
+use Rattle.stepping.proofs.step.Tie as tie
 
 enum-known-call : tie.Need-enum-known-call
 enum-known-call c = search needs

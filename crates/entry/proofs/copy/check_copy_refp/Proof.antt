@@ -15,6 +15,9 @@ slice-aggregate-take-lists c = search needs
 take-lists-requires : tie.Need-take-lists-requires
 take-lists-requires c κs = search needs
 
+slice-aggregate-copy-refp : tie.Need-slice-aggregate-copy-refp
+slice-aggregate-copy-refp c = search needs
+
 head-of-requires : tie.Need-head-of-requires
 head-of-requires c κs = search needs
 
@@ -29,7 +32,7 @@ put-lists-requires c κs = search needs
 
 returns : tie.Need-returns
 returns c =
-    let at-copy = c .before .before in
+    let at-copy = c .before .before .before in
     let at-head = at-copy .before .before in
     let at-take = at-head .before .before .before .before in
     let s = at-take .before .before in
@@ -44,6 +47,7 @@ check-copy-refp-spec =
     (tie.spec
     slice-aggregate-take-lists
     take-lists-requires
+    slice-aggregate-copy-refp
     head-of-requires
     copy-refp-requires
     slice-aggregate-put-lists

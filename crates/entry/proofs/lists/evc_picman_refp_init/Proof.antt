@@ -39,6 +39,12 @@ is-whole c = not-false _ (c .if1 .left)
 returns : tie.Need-returns
 returns c = let at-open = c .before .before .before .before in lists-turned-away (opened at-open) _ (not-true _ (c .if1 .taken))
 
+slice-aggregate-refp-init : tie.Need-slice-aggregate-refp-init
+slice-aggregate-refp-init c = search needs
+
+slice-aggregate-refp-init-2 : tie.Need-slice-aggregate-refp-init-2
+slice-aggregate-refp-init-2 c = search needs
+
 refp-init-requires : tie.Need-refp-init-requires
 refp-init-requires c κs =
     let at-test = c .before .before .before .before in
@@ -53,7 +59,7 @@ slice-aggregate-finished-2 c = search needs
 
 finished-requires : tie.Need-finished-requires
 finished-requires c κs =
-    let at-call = c .before .before in
+    let at-call = c .before .before .before in
     let at-test = at-call .before .before .before .before .before in
     let at-open = at-test .before .before .before .before in
     let came = at-call .refp-init .ensures .comes in
@@ -68,7 +74,7 @@ put-lists-requires c κs = search needs
 returns-2 : tie.Need-returns-2
 returns-2 c =
     let at-finish = c .before .before .before in
-    let at-call = at-finish .before .before .before in
+    let at-call = at-finish .before .before .before .before in
     let at-test = at-call .before .before .before .before .before in
     let at-open = at-test .before .before .before .before in
     rw (c .put-lists .ensures, at-finish .finished .ensures) (lists-come-to (opened at-open) _ (is-whole at-test) (at-call .refp-init .ensures .comes))
@@ -83,6 +89,8 @@ evc-picman-refp-init-spec =
     slice-aggregate-open-state-2
     open-state-requires
     returns
+    slice-aggregate-refp-init
+    slice-aggregate-refp-init-2
     refp-init-requires
     slice-aggregate-finished
     slice-aggregate-finished-2
