@@ -10,14 +10,14 @@ use lib.ListN.{length}
 use Rattle.seq.specs.All.{and-left}
 use Rattle.def.specs.declared.EvcRefP.{EvcRefP}
 use Rattle.def.specs.declared.CopyResult.{CopyResult}
-use Rattle.refp.specs.CopyTheorems.{copy-refused-unchanged}
+use Rattle.refp.proofs.CopyLaws.{copy-refused-unchanged}
 use Rattle.line.specs.Calls.{callFrom}
 use Rattle.line.specs.declared.Line.{Line}
 use Rattle.line.specs.declared.Line.the-variants.{Good, Bad}
 use Rattle.image.specs.Image.{imageLength, Bytes, refpAt, refpOf, isImage}
 use Rattle.image.specs.BytesKept.{bytes-kept}
 use Rattle.machine.specs.Step.{newMachine}
-use Rattle.machine.specs.EveryCall.{refused-answer, call-unchanged}
+use Rattle.machine.proofs.EveryCall.{refused-answer, call-unchanged}
 use Rattle.picman_ffi.specs.Lent.{badLine, Left, left, Answered, answered, machineOf, machineBytes}
 use Rattle.picman_ffi.specs.Copied.{isEntry, copyInto, withLists, relisted, copied}
 use Rattle.picman_ffi.specs.Called.{answerLength, answerTo, renewed, called}

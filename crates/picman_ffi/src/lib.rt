@@ -1,6 +1,8 @@
 // The static library for C and Rust: five functions over lent bytes, thin over the crates below. Where a size or a flag byte does not fit,
 // a function gives 18 and writes nothing. In the contracts `given` says, byte for byte, what is given and what the lent buffers hold then;
 // `holds` says that the bytes are an image again, from which the next call reads the machine that this one left.
+
+use entry::copy::check_copy_refp;
 use image::is_flag;
 use image::is_image;
 use image::read::read_pm;
@@ -12,13 +14,12 @@ use line::Call;
 use line::Line;
 use line::Reply;
 use line::answer_bytes;
+use line::buffer::paste;
 use line::read_call;
 use line::reply_of;
 use machine::Machine;
 use machine::fresh::new_machine;
-use machine::partial::paste;
-use machine::step::step;
-use refp::check_copy_refp;
+use stepping::step;
 use tbl::SliceDepth;
 use tbl::slice_depth;
 use tbl::slice_depth_p;
