@@ -6,7 +6,7 @@ use crate::papers::marking;
 use std::fmt;
 
 /// The rows of the table. A put of no picture and the slice types stand apart.
-pub const KINDS: [&str; 13] = [
+const KINDS: [&str; 13] = [
     "init",
     "get",
     "put",
@@ -135,7 +135,7 @@ impl Coverage {
     }
 }
 
-pub fn kind(call: &Call) -> usize {
+fn kind(call: &Call) -> usize {
     match call {
         Call::Init { .. } => 0,
         Call::Get => 1,
@@ -152,7 +152,7 @@ pub fn kind(call: &Call) -> usize {
     }
 }
 
-pub fn status_name(status: u8) -> String {
+fn status_name(status: u8) -> String {
     match status {
         0 => "done".to_string(),
         NOT_YET => "not yet".to_string(),

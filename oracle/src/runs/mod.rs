@@ -3,7 +3,6 @@
 pub mod exhaustive;
 pub mod frames;
 pub mod images;
-pub mod running;
 pub mod sequences;
 pub mod states;
 pub mod tables;
