@@ -1,0 +1,146 @@
+-- The claims on held pictures: call by call from what the calls do to slots and lease, each test of contents counted.
+-- Assumes nothing.
+use Prim.Native.Nat.{ℕ, suc, _+_}
+use mathlib.Core.Path.{_≡_, refl, sym, ap, _∙_}
+use mathlib.Core.Bool.{Bool, true, false, cond, not, _&&_}
+use mathlib.Core.List.{List, [], _∷_, _++_, List·Memᴰ, Memᴰ·append-left}
+use native.Mathlib.Omega.{arith}
+use lib.Dec.{eqb}
+use lib.ListN.{length}
+use mir.Val.{boolByte}
+use Rattle.seq.specs.Lists.{any, count, select}
+use Rattle.seq.specs.All.{and-left, count-append, mem-any, not-any}
+use Rattle.seq.specs.Changes.{count-last}
+use Rattle.seq.specs.Commute.{map-count}
+use Rattle.seq.specs.Members.{mem-map, select-mem}
+use Rattle.seq.specs.Tallies.{count-one}
+use Rattle.def.specs.declared.{Slot.Slot, EvcPm.EvcPm, PutCall.PutCall, Answer.Answer, Refusal.Refusal}
+use Rattle.def.specs.State.{slots, emptySlot, newPic, held, isPresent, isIdle, bufferOf}
+use Rattle.whole.specs.Whole.{whole, leases, places, heldBuffers}
+use Rattle.refp.specs.Lists.{lists}
+use Rattle.picman.specs.{Get.get, Put.put, Out.out, Init.init}
+use Rattle.line.specs.declared.{Call.Call, Reply.Reply}
+use Rattle.line.specs.Answers.{replyOf}
+use Rattle.machine.specs.declared.Machine.{Machine}
+use Rattle.machine.specs.Step.{putCallOf, refpCallOf, step}
+use Rattle.history.specs.Pictures.{Content, contentOf, contents, heldContents, Exchange, nothing, dropsLease, makes, returned, returns, exchange, Exchanged, CallPictures}
+use Rattle.history.proofs.Calls as acts
+use Rattle.history.proofs.Calls.{Blind, Swapped, GetActs, PutActs, OutActs, InitActs, get-acts, put-acts, out-acts, init-acts, lists-slots, lists-lease, refused-status}
+
+-- of the elements that pass p, those that pass q
+count-select : {A : Type 0} (p q : A → Bool) (xs : List A) → count q (select p xs) ≡ count (λ x. p x && q x) xs
+unfolding count select
+count-select p q [] = refl
+count-select {A} p q (x ∷ xs) = pick (p x) (count-select p q xs)
+  where
+    rest : ℕ
+    rest = count (λ y. p y && q y) xs
+
+    pick : (b : Bool) → count q (select p xs) ≡ rest → count q (cond b (x ∷ select p xs) (select p xs)) ≡ cond (b && q x) (suc rest) rest
+    pick true e = rw e
+    pick false e = e
+
+-- ---- one test of contents
+
+module _ (p : Content → Bool) where
+  -- a place that holds a picture whose content passes
+  abbrev holding : Slot → Bool
+  holding s = s .present && p (contentOf s)
+
+  passing : (xs : List Slot) → count p (contents xs) ≡ count holding xs
+  passing xs = map-count contentOf p (select isPresent xs) ∙ count-select isPresent (λ s. p (contentOf s)) xs
+
+  state-passing : (pm : EvcPm) → count p (heldContents pm) ≡ count holding (pm .pic) + boolByte (holding (pm .«pic_lease»))
+  state-passing pm = passing (places pm) ∙ count-last holding (pm .pic) (pm .«pic_lease»)
+
+  lease-passing : (pm : EvcPm) → count p (contents (leases pm)) ≡ boolByte (holding (pm .«pic_lease»))
+  unfolding count
+  lease-passing pm = let e = passing (leases pm) in let o = count-one holding (pm .«pic_lease») [] in omega arith
+
+  absent : (s : Slot) → s .present ≡ false → boolByte (holding s) ≡ 0
+  absent s e = rw e
+
+  same-slot : {s t : Slot} → s ≡ t → boolByte (holding s) ≡ boolByte (holding t)
+  same-slot e = ap (λ (s : Slot). boolByte (holding s)) e
+
+  blind : Blind holding
+  blind s = refl
+
+  none : count p [] ≡ 0
+  unfolding count
+  none = refl
+
+  one : (x : Content) → count p (x ∷ []) ≡ boolByte (p x)
+  unfolding count
+  one x = let o = count-one p x [] in omega arith
+
+  -- an exchange, part by part
+  module _ (pm q : EvcPm) (e : Exchange) where
+    balanced : count holding (q .pic) + boolByte (holding (q .«pic_lease»)) + count p (e .gone)
+        ≡ count holding (pm .pic) + boolByte (holding (pm .«pic_lease»)) + count p (e .come)
+        → count p (heldContents q ++ e .gone) ≡ count p (heldContents pm ++ e .come)
+    balanced h = omega (arith, count-append p (heldContents q) (e .gone), count-append p (heldContents pm) (e .come), state-passing q, state-passing pm)
+
+-- the same slots and lease hold the same
+same-held : (pm q : EvcPm) → q .pic ≡ pm .pic → q .«pic_lease» ≡ pm .«pic_lease» → Exchanged (heldContents pm) nothing (heldContents q)
+same-held pm q e f p = rw (e, f)
+
+-- ---- call by call
+
+module _ (m : Machine) where
+  abbrev before : List Content
+  before = heldContents (m .pm)
+
+  abbrev lease : Slot
+  lease = m .pm .«pic_lease»
+
+  init-pictures : (size refs : ℕ) {a : Answer} {q : EvcPm} → InitActs (m .pm) a q → Exchanged before (exchange m (Call.Init size refs) (replyOf 1 a)) (heldContents q)
+  init-pictures size refs (acts.turned-down why) = rw (refused-status why) (λ p. refl)
+  init-pictures size refs (acts.dropped {q = q} l s) = λ p.
+    balanced p (m .pm) q (dropsLease m)
+    (omega (arith, none p, lease-passing p (m .pm), ap (count (holding p)) s, same-slot p l))
+
+  get-pictures : {a : Answer} {q : EvcPm} → GetActs (m .pm) a q → Exchanged before (exchange m Call.GetEmptyPic (replyOf 2 a)) (heldContents q)
+  get-pictures (acts.turned-down why) = rw (refused-status why) (λ p. refl)
+  get-pictures (acts.took-idle {q = q} s idle mem free l swap) =
+      rw (mem-any (heldBuffers (m .pm)) (mem-map bufferOf (select-mem isPresent (places (m .pm)) (Memᴰ·append-left (leases (m .pm)) mem) (and-left (s .present) _ idle))))
+      (λ p. balanced p (m .pm) q nothing (omega (arith, none p, absent p lease free, same-slot p l, swap (holding p) (blind p))))
+  get-pictures (acts.made-new {q = q} b new free l s) =
+      rw (not-any b (heldBuffers (m .pm)) new)
+      (λ p. balanced p (m .pm) q (makes b)
+      (omega (arith, none p, one p (contentOf (held newPic b)), absent p lease free, same-slot p l, ap (count (holding p)) s)))
+
+  put-pictures : (flags poc tid gap : ℕ) {a : Answer} {q : EvcPm} → PutActs (m .pm) (m .refp) (putCallOf flags poc tid gap) a q
+      → Exchanged before (exchange m (Call.PutPic flags poc tid gap) (replyOf 3 a)) (heldContents q)
+  put-pictures flags poc tid gap (acts.turned-down why) = rw (refused-status why) (λ p. refl)
+  put-pictures flags poc tid gap (acts.marked-only {q = q} bare l same) =
+      rw bare (λ p. balanced p (m .pm) q nothing (omega (arith, same-slot p l, same (holding p) (blind p))))
+  put-pictures flags poc tid gap (acts.stored {q = q} old new some leased l gone here is wanted swap) =
+      rw some (λ p. balanced p (m .pm) q (returns m (putCallOf flags poc tid gap))
+      (omega (
+        arith,
+        lease-passing p (m .pm),
+        one p (returned m (putCallOf flags poc tid gap) lease),
+        absent p old gone,
+        same-slot p l,
+        there p,
+        swap (holding p) (blind p),
+      )))
+    where
+      there : (p : Content → Bool) → boolByte (holding p new) ≡ boolByte (p (returned m (putCallOf flags poc tid gap) lease))
+      there p = rw here (ap (λ (x : Content). boolByte (p x)) is)
+
+  out-pictures : {a : Answer} {q : EvcPm} → OutActs (m .pm) a q → Exchanged before nothing (heldContents q)
+  out-pictures (acts.handed-none t) = λ p. refl
+  out-pictures (acts.handed {q = q} s wanted l swap) = λ p. balanced p (m .pm) q nothing (omega (arith, same-slot p l, swap (holding p) (blind p)))
+
+pub call-pictures : CallPictures
+unfolding step
+call-pictures m (Call.Init size refs) w n = init-pictures m size refs (init-acts (m .pm) size refs)
+call-pictures m Call.GetEmptyPic w n = get-pictures m (get-acts (m .pm) n)
+call-pictures m (Call.PutPic flags poc tid gap) w n = put-pictures m flags poc tid gap (put-acts (m .pm) (m .refp) (putCallOf flags poc tid gap) n)
+call-pictures m Call.OutPic w n = out-pictures m (out-acts (m .pm) n)
+call-pictures m (Call.RefpInit slice poc layer intra limit) w n =
+    let c = refpCallOf slice poc layer intra limit in
+    same-held (m .pm) (lists (m .pm) (m .refp) c .pm) (lists-slots (m .pm) (m .refp) c w) (lists-lease (m .pm) (m .refp) c w)
+call-pictures m (Call.PocDerivation L t) w n = λ p. refl
