@@ -1,2 +1,4 @@
+pub mod Counting
 pub mod Calls
 pub mod Pictures
+pub mod Files

@@ -1,9 +1,10 @@
 -- The claims on held pictures: call by call from what the calls do to slots and lease, each test of contents counted.
 -- Assumes nothing.
-use Prim.Native.Nat.{ℕ, suc, _+_}
+use Prim.Native.Nat.{ℕ, _+_}
 use mathlib.Core.Path.{_≡_, refl, sym, ap, _∙_}
 use mathlib.Core.Bool.{Bool, true, false, cond, not, _&&_}
-use mathlib.Core.List.{List, [], _∷_, _++_, List·Memᴰ, Memᴰ·append-left}
+use native.Mathlib.Decide.{ℕ-discrete}
+use mathlib.Core.List.{List, [], _∷_, _++_, List·Memᴰ, List·Memᴰ·append-cases, Memᴰ·append-left, List-discrete}
 use native.Mathlib.Omega.{arith}
 use lib.Dec.{eqb}
 use lib.ListN.{length}
@@ -23,22 +24,10 @@ use Rattle.line.specs.declared.{Call.Call, Reply.Reply}
 use Rattle.line.specs.Answers.{replyOf}
 use Rattle.machine.specs.declared.Machine.{Machine}
 use Rattle.machine.specs.Step.{putCallOf, refpCallOf, step}
-use Rattle.history.specs.Pictures.{Content, contentOf, contents, heldContents, Exchange, nothing, dropsLease, makes, returned, returns, exchange, Exchanged, CallPictures}
+use Rattle.history.specs.Pictures.{Content, contentOf, contents, heldContents, Exchange, nothing, dropsLease, makes, returned, returns, exchange, Exchanged, CallPictures, Stays, EachPicture}
+use Rattle.history.proofs.Counting.{count-select, reordered-mem}
 use Rattle.history.proofs.Calls as acts
 use Rattle.history.proofs.Calls.{Blind, Swapped, GetActs, PutActs, OutActs, InitActs, get-acts, put-acts, out-acts, init-acts, lists-slots, lists-lease, refused-status}
-
--- of the elements that pass p, those that pass q
-count-select : {A : Type 0} (p q : A → Bool) (xs : List A) → count q (select p xs) ≡ count (λ x. p x && q x) xs
-unfolding count select
-count-select p q [] = refl
-count-select {A} p q (x ∷ xs) = pick (p x) (count-select p q xs)
-  where
-    rest : ℕ
-    rest = count (λ y. p y && q y) xs
-
-    pick : (b : Bool) → count q (select p xs) ≡ rest → count q (cond b (x ∷ select p xs) (select p xs)) ≡ cond (b && q x) (suc rest) rest
-    pick true e = rw e
-    pick false e = e
 
 -- ---- one test of contents
 
@@ -97,8 +86,8 @@ module _ (m : Machine) where
   init-pictures : (size refs : ℕ) {a : Answer} {q : EvcPm} → InitActs (m .pm) a q → Exchanged before (exchange m (Call.Init size refs) (replyOf 1 a)) (heldContents q)
   init-pictures size refs (acts.turned-down why) = rw (refused-status why) (λ p. refl)
   init-pictures size refs (acts.dropped {q = q} l s) = λ p.
-    balanced p (m .pm) q (dropsLease m)
-    (omega (arith, none p, lease-passing p (m .pm), ap (count (holding p)) s, same-slot p l))
+      balanced p (m .pm) q (dropsLease m)
+      (omega (arith, none p, lease-passing p (m .pm), ap (count (holding p)) s, same-slot p l))
 
   get-pictures : {a : Answer} {q : EvcPm} → GetActs (m .pm) a q → Exchanged before (exchange m Call.GetEmptyPic (replyOf 2 a)) (heldContents q)
   get-pictures (acts.turned-down why) = rw (refused-status why) (λ p. refl)
@@ -144,3 +133,27 @@ call-pictures m (Call.RefpInit slice poc layer intra limit) w n =
     let c = refpCallOf slice poc layer intra limit in
     same-held (m .pm) (lists (m .pm) (m .refp) c .pm) (lists-slots (m .pm) (m .refp) c w) (lists-lease (m .pm) (m .refp) c w)
 call-pictures m (Call.PocDerivation L t) w n = λ p. refl
+
+-- ---- picture by picture
+
+content-discrete : Discrete Content
+content-discrete x y =
+    pick (ℕ-discrete (x .buf) (y .buf)) (ℕ-discrete (x .poc) (y .poc)) (ℕ-discrete (x .layer) (y .layer)) (List-discrete ℕ-discrete (x .numbers) (y .numbers))
+  where
+    pick : Dec (x .buf ≡ y .buf) → Dec (x .poc ≡ y .poc) → Dec (x .layer ≡ y .layer) → Dec (x .numbers ≡ y .numbers) → Dec (x ≡ y)
+    pick (yes a) (yes b) (yes c) (yes d) = yes (λ i. record { buf = a i; poc = b i; layer = c i; numbers = d i })
+    pick (no f) b c d = no (λ e. f (ap (λ (z : Content). z .buf) e))
+    pick (yes a) (no f) c d = no (λ e. f (ap (λ (z : Content). z .poc) e))
+    pick (yes a) (yes b) (no f) d = no (λ e. f (ap (λ (z : Content). z .layer) e))
+    pick (yes a) (yes b) (yes c) (no f) = no (λ e. f (ap (λ (z : Content). z .numbers) e))
+
+stays : (before after : List Content) (e : Exchange) → Exchanged before e after → Stays before e after
+stays before after e r = record {
+  is-held = λ x m. List·Memᴰ·append-cases after (reordered-mem content-discrete (before ++ e .come) (after ++ e .gone) r (Memᴰ·append-left (e .come) m));
+  was-held = λ x m. List·Memᴰ·append-cases before
+      (reordered-mem content-discrete (after ++ e .gone) (before ++ e .come) (λ p. sym (r p)) (Memᴰ·append-left (e .gone) m));
+}
+
+pub each-picture : EachPicture
+each-picture m c w n =
+    stays (heldContents (m .pm)) (heldContents (step m c .machine .pm)) (exchange m c (step m c .reply)) (call-pictures m c w n)
