@@ -1,10 +1,10 @@
 -- What each call does to slots and lease, gathered here for the proofs of this crate: they rest on these facts alone.
 -- Slots are compared by how many pass a test; a test that does not read the marks sees nothing of marking.
 -- Assumes nothing.
-use Prim.Native.Nat.{ℕ, _+_, _<_}
-use mathlib.Core.Path.{_≡_, refl, sym, ap, _∙_}
+use Prim.Native.Nat.{ℕ, _+_}
+use mathlib.Core.Path.{_≡_, refl, ap, _∙_}
 use mathlib.Core.Bool.{Bool, true, false}
-use mathlib.Core.List.{List, [], _∷_, _++_, List·Memᴰ}
+use mathlib.Core.List.{List, List·Memᴰ}
 use native.Mathlib.Omega.{arith}
 use lib.Dec.{leb, eqb}
 use lib.ListN.{length, getD, set}
@@ -14,12 +14,12 @@ use Rattle.seq.specs.All.{and-left}
 use Rattle.seq.specs.Lowest.{lowest-passes}
 use Rattle.seq.specs.Changes.{getD-mem, remove-reordered, count-last}
 use Rattle.seq.specs.Tallies.{count-set}
-use Rattle.def.specs.declared.{Slot.Slot, EvcPm.EvcPm, EvcRefP.EvcRefP, PutCall.PutCall, RefpCall.RefpCall, PmResult.PmResult, RefpResult.RefpResult, Answer.Answer, Refusal.Refusal}
+use Rattle.def.specs.declared.{Slot.Slot, EvcPm.EvcPm, EvcRefP.EvcRefP, PutCall.PutCall, RefpCall.RefpCall, PmResult.PmResult, Answer.Answer, Refusal.Refusal}
 use Rattle.def.specs.Refusals.{refusalNumber}
 use Rattle.def.specs.State.{slots, newPic, emptySlot, noSlot, held, isWanted, isIdle, unmarked, handedOver}
 use Rattle.whole.specs.Whole.{whole, heldBuffers}
 use Rattle.refp.specs.Lists.{lists}
-use Rattle.refp.specs.ListTheorems.{on-whole, only-counts}
+use Rattle.refp.specs.ListTheorems.{on-whole, on-other, only-counts}
 use Rattle.picman.specs.Get.{get}
 use Rattle.picman.specs.GetLaws as get-laws
 use Rattle.picman.specs.GetKeeps.{fresh-not-held}
@@ -33,7 +33,7 @@ use Rattle.picman.specs.OutLaws as out-laws
 use Rattle.picman.specs.Init.{init}
 use Rattle.picman.specs.InitLaws as init-laws
 use Rattle.line.specs.Answers.{replyOf}
-use Rattle.history.specs.Pictures.{Content, contentOf, isAccepted}
+use Rattle.history.specs.Pictures.{contentOf, isAccepted}
 
 -- ---- slots by counts
 
@@ -166,9 +166,14 @@ init-acts pm size refs = pick (init-laws.inits pm size refs)
 
 -- ---- lists
 
-module _ (pm : EvcPm) (refp : List EvcRefP) (c : RefpCall) (w : whole pm ≡ true) where
-  pub lists-slots : lists pm refp c .pm .pic ≡ pm .pic
-  lists-slots = ap (λ (r : RefpResult). r .pm .pic) (on-whole pm refp c w) ∙ ap (λ (q : EvcPm). q .pic) (only-counts pm refp c)
+-- nothing but the two counts changes
+pub record OnlyCounts (pm q : EvcPm) : Type 0 where
+  pub slots-stay : q .pic ≡ pm .pic
+  pub lease-stays : q .«pic_lease» ≡ pm .«pic_lease»
 
-  pub lists-lease : lists pm refp c .pm .«pic_lease» ≡ pm .«pic_lease»
-  lists-lease = ap (λ (r : RefpResult). r .pm .«pic_lease») (on-whole pm refp c w) ∙ ap (λ (q : EvcPm). q .«pic_lease») (only-counts pm refp c)
+pub lists-acts : (pm : EvcPm) (refp : List EvcRefP) (c : RefpCall) → OnlyCounts pm (lists pm refp c .pm)
+lists-acts pm refp c = pick (whole pm) refl
+  where
+    pick : (b : Bool) → whole pm ≡ b → OnlyCounts pm (lists pm refp c .pm)
+    pick true w = rw (on-whole pm refp c w, only-counts pm refp c) (record { slots-stay = refl; lease-stays = refl })
+    pick false w = rw (on-other pm refp c w) (record { slots-stay = refl; lease-stays = refl })

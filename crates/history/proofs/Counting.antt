@@ -1,7 +1,7 @@
 -- How many pass a test: of those selected; and what counts say of members.
 -- Assumes nothing.
 use Prim.Native.Nat.{ℕ, suc}
-use mathlib.Core.Path.{_≡_, refl, ap}
+use mathlib.Core.Path.{_≡_, refl}
 use mathlib.Core.Bool.{Bool, true, false, cond, _&&_}
 use mathlib.Core.Bool as Bool
 use mathlib.Core.Logic.{⊎-elim}

@@ -1,20 +1,19 @@
 -- The claims on whole runs: line by line, what is put and wanted goes to the slots that wait, and what is handed over comes from them.
 -- Assumes nothing.
-use Prim.Native.Nat.{ℕ, _+_, _≤_}
-use mathlib.Core.Path.{_≡_, refl, sym, ap, _∙_}
-use mathlib.Core.Bool.{Bool, true, false, cond, not, _&&_}
+use Prim.Native.Nat.{ℕ, _+_}
+use mathlib.Core.Path.{_≡_, refl, ap}
+use mathlib.Core.Bool.{Bool, true, false, not, _&&_}
 use mathlib.Core.Bool as Bool
 use mathlib.Core.List.{List, [], _∷_, _++_, map, flatMap}
 use native.Mathlib.Omega.{arith}
 use lib.Dec.{eqb}
-use lib.ListN.{length}
 use mir.Val.{boolByte}
-use Rattle.seq.specs.Lists.{count, select, Distinct}
-use Rattle.seq.specs.All.{and-left, count-append}
+use Rattle.seq.specs.Lists.{count, select}
+use Rattle.seq.specs.All.{count-append}
 use Rattle.seq.specs.Often.{count-select-map, fewer-distinct}
 use Rattle.seq.specs.Tallies.{count-one}
-use Rattle.def.specs.declared.{Slot.Slot, EvcPm.EvcPm, PutCall.PutCall, Answer.Answer}
-use Rattle.def.specs.State.{isWanted, isIdle, emptySlot, handedOver}
+use Rattle.def.specs.declared.{Slot.Slot, EvcPm.EvcPm, Answer.Answer}
+use Rattle.def.specs.State.{isWanted, isIdle, handedOver}
 use Rattle.line.specs.declared.{Call.Call, Line.Line, Reply.Reply}
 use Rattle.line.specs.{Calls.readLine, Answers.answerLine, Answers.replyOf}
 use Rattle.machine.specs.declared.Machine.{Machine}
@@ -24,7 +23,7 @@ use Rattle.machine.specs.EveryCall.{Sound, line-sound, new-sound}
 use Rattle.history.specs.Files.{Turn, turns, leaves, ProgramShows, ifSo, putNumber, outNumber, putNumbers, outNumbers, waiting, OnePictureOneFile, FilesDiffer}
 use Rattle.history.specs.Pictures.{Content}
 use Rattle.history.proofs.Calls as acts
-use Rattle.history.proofs.Calls.{Blind, GetActs, PutActs, OutActs, InitActs, get-acts, put-acts, out-acts, init-acts, lists-slots, refused-status}
+use Rattle.history.proofs.Calls.{Blind, GetActs, PutActs, OutActs, InitActs, get-acts, put-acts, out-acts, init-acts, lists-acts, refused-status}
 
 -- ---- the slots that wait with number n
 
@@ -104,7 +103,7 @@ module _ (n : ℕ) where
   call-flows m Call.GetEmptyPic s = get-flows (get-acts (m .pm) (s .all-slots))
   call-flows m (Call.PutPic flags poc tid gap) s = put-flows m flags poc tid gap (put-acts (m .pm) (m .refp) (putCallOf flags poc tid gap) (s .all-slots))
   call-flows m Call.OutPic s = out-flows (out-acts (m .pm) (s .all-slots))
-  call-flows m (Call.RefpInit slice poc layer intra limit) s = rw (lists-slots (m .pm) (m .refp) (refpCallOf slice poc layer intra limit) (s .whole-state))
+  call-flows m (Call.RefpInit slice poc layer intra limit) s = rw (lists-acts (m .pm) (m .refp) (refpCallOf slice poc layer intra limit) .slots-stay)
   call-flows m (Call.PocDerivation L t) s = refl
 
   line-flows : (m : Machine) (l : Line) → Sound m → Flows (m .pm .pic) (stepLine m l .machine .pm .pic) l (stepLine m l .reply)

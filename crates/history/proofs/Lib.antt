@@ -2,3 +2,4 @@ pub mod Counting
 pub mod Calls
 pub mod Pictures
 pub mod Files
+pub mod Derived

@@ -2,32 +2,28 @@
 -- Assumes nothing.
 use Prim.Native.Nat.{ℕ, _+_}
 use mathlib.Core.Path.{_≡_, refl, sym, ap, _∙_}
-use mathlib.Core.Bool.{Bool, true, false, cond, not, _&&_}
+use mathlib.Core.Bool.{Bool, false, _&&_}
 use native.Mathlib.Decide.{ℕ-discrete}
-use mathlib.Core.List.{List, [], _∷_, _++_, List·Memᴰ, List·Memᴰ·append-cases, Memᴰ·append-left, List-discrete}
+use mathlib.Core.List.{List, [], _∷_, _++_, List·Memᴰ·append-cases, Memᴰ·append-left, List-discrete}
 use native.Mathlib.Omega.{arith}
-use lib.Dec.{eqb}
-use lib.ListN.{length}
 use mir.Val.{boolByte}
-use Rattle.seq.specs.Lists.{any, count, select}
+use Rattle.seq.specs.Lists.{count, select}
 use Rattle.seq.specs.All.{and-left, count-append, mem-any, not-any}
 use Rattle.seq.specs.Changes.{count-last}
 use Rattle.seq.specs.Commute.{map-count}
 use Rattle.seq.specs.Members.{mem-map, select-mem}
 use Rattle.seq.specs.Tallies.{count-one}
-use Rattle.def.specs.declared.{Slot.Slot, EvcPm.EvcPm, PutCall.PutCall, Answer.Answer, Refusal.Refusal}
-use Rattle.def.specs.State.{slots, emptySlot, newPic, held, isPresent, isIdle, bufferOf}
-use Rattle.whole.specs.Whole.{whole, leases, places, heldBuffers}
-use Rattle.refp.specs.Lists.{lists}
-use Rattle.picman.specs.{Get.get, Put.put, Out.out, Init.init}
-use Rattle.line.specs.declared.{Call.Call, Reply.Reply}
+use Rattle.def.specs.declared.{Slot.Slot, EvcPm.EvcPm, Answer.Answer}
+use Rattle.def.specs.State.{newPic, held, isPresent, bufferOf}
+use Rattle.whole.specs.Whole.{leases, places, heldBuffers}
+use Rattle.line.specs.declared.{Call.Call}
 use Rattle.line.specs.Answers.{replyOf}
 use Rattle.machine.specs.declared.Machine.{Machine}
 use Rattle.machine.specs.Step.{putCallOf, refpCallOf, step}
 use Rattle.history.specs.Pictures.{Content, contentOf, contents, heldContents, Exchange, nothing, dropsLease, makes, returned, returns, exchange, Exchanged, CallPictures, Stays, EachPicture}
 use Rattle.history.proofs.Counting.{count-select, reordered-mem}
 use Rattle.history.proofs.Calls as acts
-use Rattle.history.proofs.Calls.{Blind, Swapped, GetActs, PutActs, OutActs, InitActs, get-acts, put-acts, out-acts, init-acts, lists-slots, lists-lease, refused-status}
+use Rattle.history.proofs.Calls.{Blind, GetActs, PutActs, OutActs, InitActs, get-acts, put-acts, out-acts, init-acts, OnlyCounts, lists-acts, refused-status}
 
 -- ---- one test of contents
 
@@ -71,8 +67,8 @@ module _ (p : Content → Bool) where
     balanced h = omega (arith, count-append p (heldContents q) (e .gone), count-append p (heldContents pm) (e .come), state-passing q, state-passing pm)
 
 -- the same slots and lease hold the same
-same-held : (pm q : EvcPm) → q .pic ≡ pm .pic → q .«pic_lease» ≡ pm .«pic_lease» → Exchanged (heldContents pm) nothing (heldContents q)
-same-held pm q e f p = rw (e, f)
+same-held : {pm q : EvcPm} → OnlyCounts pm q → Exchanged (heldContents pm) nothing (heldContents q)
+same-held o p = rw (o .slots-stay, o .lease-stays)
 
 -- ---- call by call
 
@@ -125,14 +121,12 @@ module _ (m : Machine) where
 
 pub call-pictures : CallPictures
 unfolding step
-call-pictures m (Call.Init size refs) w n = init-pictures m size refs (init-acts (m .pm) size refs)
-call-pictures m Call.GetEmptyPic w n = get-pictures m (get-acts (m .pm) n)
-call-pictures m (Call.PutPic flags poc tid gap) w n = put-pictures m flags poc tid gap (put-acts (m .pm) (m .refp) (putCallOf flags poc tid gap) n)
-call-pictures m Call.OutPic w n = out-pictures m (out-acts (m .pm) n)
-call-pictures m (Call.RefpInit slice poc layer intra limit) w n =
-    let c = refpCallOf slice poc layer intra limit in
-    same-held (m .pm) (lists (m .pm) (m .refp) c .pm) (lists-slots (m .pm) (m .refp) c w) (lists-lease (m .pm) (m .refp) c w)
-call-pictures m (Call.PocDerivation L t) w n = λ p. refl
+call-pictures m (Call.Init size refs) n = init-pictures m size refs (init-acts (m .pm) size refs)
+call-pictures m Call.GetEmptyPic n = get-pictures m (get-acts (m .pm) n)
+call-pictures m (Call.PutPic flags poc tid gap) n = put-pictures m flags poc tid gap (put-acts (m .pm) (m .refp) (putCallOf flags poc tid gap) n)
+call-pictures m Call.OutPic n = out-pictures m (out-acts (m .pm) n)
+call-pictures m (Call.RefpInit slice poc layer intra limit) n = same-held (lists-acts (m .pm) (m .refp) (refpCallOf slice poc layer intra limit))
+call-pictures m (Call.PocDerivation L t) n = λ p. refl
 
 -- ---- picture by picture
 
@@ -155,5 +149,5 @@ stays before after e r = record {
 }
 
 pub each-picture : EachPicture
-each-picture m c w n =
-    stays (heldContents (m .pm)) (heldContents (step m c .machine .pm)) (exchange m c (step m c .reply)) (call-pictures m c w n)
+each-picture m c n =
+    stays (heldContents (m .pm)) (heldContents (step m c .machine .pm)) (exchange m c (step m c .reply)) (call-pictures m c n)

@@ -2,7 +2,7 @@
 -- Assumes nothing.
 use Prim.Native.Nat.{ℕ}
 use mathlib.Core.Path.{_≡_}
-use mathlib.Core.Bool.{Bool, true, cond, not, _&&_}
+use mathlib.Core.Bool.{Bool, cond, not, _&&_}
 use mathlib.Core.Logic.{_⊎_}
 use mathlib.Core.List.{List, [], _∷_, _++_, map, List·Memᴰ}
 use lib.Dec.{eqb}
@@ -11,7 +11,7 @@ use Rattle.seq.specs.Lists.{any, select}
 use Rattle.seq.specs.Reorder.{Reordered}
 use Rattle.def.specs.declared.{Slot.Slot, EvcPm.EvcPm, PutCall.PutCall}
 use Rattle.def.specs.State.{slots, newPic, held}
-use Rattle.whole.specs.Whole.{whole, isPresent, leases, places, heldBuffers}
+use Rattle.whole.specs.Whole.{isPresent, leases, places, heldBuffers}
 use Rattle.picman.specs.Put.{listed}
 use Rattle.line.specs.declared.{Call.Call, Reply.Reply}
 use Rattle.machine.specs.declared.Machine.{Machine}
@@ -79,10 +79,11 @@ exchange m (Call.PocDerivation L t) r = nothing
 abbrev pub Exchanged : List Content → Exchange → List Content → Type 0
 Exchanged before e after = Reordered (before ++ e .come) (after ++ e .gone)
 
--- Every call on a whole state, refusals among them, exchanges what is said above and leaves every other held picture as it was.
+-- Every call on every state of 27 slots, refusals among them, exchanges what is said above and leaves every other held picture as it was.
+-- A state that is not whole turns every call on it down.
 abbrev pub CallPictures : Type 0
 CallPictures =
-    (m : Machine) (c : Call) → whole (m .pm) ≡ true → length (m .pm .pic) ≡ slots
+    (m : Machine) (c : Call) → length (m .pm .pic) ≡ slots
     → Exchanged (heldContents (m .pm)) (exchange m c (step m c .reply)) (heldContents (step m c .machine .pm))
 
 -- The same picture by picture: one that was held is held after the call or is among those that went; one that is held was held or came.
@@ -92,5 +93,5 @@ pub record Stays (before : List Content) (e : Exchange) (after : List Content) :
 
 abbrev pub EachPicture : Type 0
 EachPicture =
-    (m : Machine) (c : Call) → whole (m .pm) ≡ true → length (m .pm .pic) ≡ slots
+    (m : Machine) (c : Call) → length (m .pm .pic) ≡ slots
     → Stays (heldContents (m .pm)) (exchange m c (step m c .reply)) (heldContents (step m c .machine .pm))
