@@ -33,7 +33,7 @@ use Rattle.picman.specs.OutLaws as out-laws
 use Rattle.picman.specs.Init.{init}
 use Rattle.picman.specs.InitLaws as init-laws
 use Rattle.line.specs.Answers.{replyOf}
-use Rattle.history.specs.Pictures.{contentOf, isAccepted}
+use Rattle.history.specs.Pictures.{contentOf, isDone}
 
 -- ---- slots by counts
 
@@ -100,11 +100,11 @@ get-acts pm size = pick (get-laws.gets pm)
 pub data PutActs (pm : EvcPm) (refp : List EvcRefP) (c : PutCall) : Answer → EvcPm → Type 0 where
   turned-down : (why : Refusal) → PutActs pm refp c (Answer.Refused why) pm
   marked-only : {q : EvcPm} → c .«has_pic» ≡ false → q .«pic_lease» ≡ pm .«pic_lease» → SameSlots (pm .pic) (q .pic) → PutActs pm refp c Answer.Done q
-  stored : {q : EvcPm} (old new : Slot) → c .«has_pic» ≡ true → pm .«pic_lease» .present ≡ true → q .«pic_lease» ≡ emptySlot → old .present ≡ false
+  stored : {q : EvcPm} {b : ℕ} (old new : Slot) → c .«has_pic» ≡ true → pm .«pic_lease» .present ≡ true → q .«pic_lease» ≡ emptySlot → old .present ≡ false
       → new .present ≡ true
       → contentOf new ≡ record { buf = pm .«pic_lease» .buf; poc = c .poc; layer = c .«temporal_id»; numbers = listed (pm .«num_refp_0») refp (pm .«pic_lease» .pic) }
       → new .pic .«need_for_out» ≡ c .«need_for_output»
-      → Swapped old new (pm .pic) (q .pic) → PutActs pm refp c (Answer.Picture (pm .«pic_lease» .buf) (c .poc)) q
+      → Swapped old new (pm .pic) (q .pic) → PutActs pm refp c (Answer.Picture b (c .poc)) q
 
 pub put-acts : (pm : EvcPm) (refp : List EvcRefP) (c : PutCall) → length (pm .pic) ≡ slots → PutActs pm refp c (put pm refp c .answer) (put pm refp c .pm)
 put-acts pm refp c size = pick (put-laws.puts pm refp c)
@@ -132,7 +132,7 @@ put-acts pm refp c size = pick (put-laws.puts pm refp c)
 -- ---- out
 
 pub data OutActs (pm : EvcPm) : Answer → EvcPm → Type 0 where
-  handed-none : {a : Answer} → isAccepted (replyOf 4 a) ≡ false → OutActs pm a pm
+  handed-none : {a : Answer} → isDone (replyOf 4 a) ≡ false → OutActs pm a pm
   handed : {q : EvcPm} (s : Slot) → isWanted s ≡ true → q .«pic_lease» ≡ pm .«pic_lease» → Swapped s (handedOver s) (pm .pic) (q .pic)
       → OutActs pm (Answer.Picture (s .buf) (s .pic .poc)) q
 

@@ -27,7 +27,7 @@ use Rattle.poc.specs.Clip.{clip-rule}
 use Rattle.line.specs.declared.{Call.Call, Line.Line}
 use Rattle.machine.specs.declared.Machine.{Machine}
 use Rattle.machine.specs.Step.{newMachine, derivedReply, step, stepLine}
-use Rattle.history.specs.Pictures.{isAccepted}
+use Rattle.history.specs.Pictures.{isDone}
 use Rattle.history.specs.Files.{turns, ifSo, putNumbers, derivations, derivedNumbers, DerivedDiffer, ClipFilesDiffer}
 use Rattle.history.proofs.Calls.{refused-status}
 use Rattle.history.proofs.Files.{files-differ}
@@ -59,7 +59,7 @@ derived-shown m (Line.Good (Call.PocDerivation L t) ∷ ls) =
     answered a = record { call = record { log2 = L; layer = t }; answer = a; after = d .poc }
 
     pick : {shown : List ℕ} (a : PocAnswer) → shown ≡ map wordOf later
-        → ifSo (isAccepted (derivedReply 6 a)) (derivedReply 6 a .value) ++ shown ≡ map wordOf (cond (poc.isAccepted (answered a)) (answered a ∷ later) later)
+        → ifSo (isDone (derivedReply 6 a)) (derivedReply 6 a .value) ++ shown ≡ map wordOf (cond (poc.isAccepted (answered a)) (answered a ∷ later) later)
     pick (PocAnswer.Derived n) e = ap {B = List ℕ} (λ l. twosComplement (n .0) ∷ l) e
     pick (PocAnswer.Refused why) e = rw (refused-status why) e
 

@@ -17,7 +17,7 @@ use Rattle.line.specs.Answers.{answerLine}
 use Rattle.machine.specs.declared.Machine.{Machine}
 use Rattle.machine.specs.Step.{newMachine, putCallOf, stepLine}
 use Rattle.machine.specs.Run.{linesFrom, program}
-use Rattle.history.specs.Pictures.{isAccepted}
+use Rattle.history.specs.Pictures.{isDone}
 
 -- A line of a run, good or bad, with the reply that the program shows for it.
 pub record Turn : Type 0 where
@@ -45,7 +45,7 @@ ifSo b n = cond b (n ∷ []) []
 -- The number of a wanted picture that was put: of an accepted put with a picture that is wanted for output.
 abbrev pub putNumber : Line → Reply → List ℕ
 putNumber (Line.Good (Call.PutPic flags poc tid gap)) r =
-    ifSo (isAccepted r && (putCallOf flags poc tid gap .«has_pic» && putCallOf flags poc tid gap .«need_for_output»)) poc
+    ifSo (isDone r && (putCallOf flags poc tid gap .«has_pic» && putCallOf flags poc tid gap .«need_for_output»)) poc
 putNumber (Line.Good (Call.Init size refs)) r = []
 putNumber (Line.Good Call.GetEmptyPic) r = []
 putNumber (Line.Good Call.OutPic) r = []
@@ -55,7 +55,7 @@ putNumber Line.Bad r = []
 
 -- The number that an out handed over, as its reply shows it.
 abbrev pub outNumber : Line → Reply → List ℕ
-outNumber (Line.Good Call.OutPic) r = ifSo (isAccepted r) (r .value)
+outNumber (Line.Good Call.OutPic) r = ifSo (isDone r) (r .value)
 outNumber (Line.Good (Call.Init size refs)) r = []
 outNumber (Line.Good Call.GetEmptyPic) r = []
 outNumber (Line.Good (Call.PutPic flags poc tid gap)) r = []
@@ -100,7 +100,7 @@ abbrev pub derivations : List Line → List poc.Call
 derivations ls = flatMap derivation ls
 
 abbrev pub derivedNumber : Line → Reply → List ℕ
-derivedNumber (Line.Good (Call.PocDerivation L t)) r = ifSo (isAccepted r) (r .value)
+derivedNumber (Line.Good (Call.PocDerivation L t)) r = ifSo (isDone r) (r .value)
 derivedNumber (Line.Good (Call.Init size refs)) r = []
 derivedNumber (Line.Good Call.GetEmptyPic) r = []
 derivedNumber (Line.Good (Call.PutPic flags poc tid gap)) r = []

@@ -42,9 +42,9 @@ pub record Exchange : Type 0 where
 abbrev pub nothing : Exchange
 nothing = record { gone = []; come = [] }
 
--- Status 0: the call was accepted.
-abbrev pub isAccepted : Reply → Bool
-isAccepted r = eqb (r .status) 0
+-- Status 0: the call was done, and an out handed a picture over.
+abbrev pub isDone : Reply → Bool
+isDone r = eqb (r .status) 0
 
 -- An init drops the lease.
 abbrev pub dropsLease : Machine → Exchange
@@ -67,10 +67,10 @@ returns m c = record { gone = contents (leases (m .pm)); come = map (returned m 
 
 -- What a call with this reply may change. A call turned down changes nothing, and neither does a put of no picture, which only marks.
 abbrev pub exchange : Machine → Call → Reply → Exchange
-exchange m (Call.Init size refs) r = cond (isAccepted r) (dropsLease m) nothing
-exchange m Call.GetEmptyPic r = cond (isAccepted r && isMade m r) (makes (r .buf)) nothing
+exchange m (Call.Init size refs) r = cond (isDone r) (dropsLease m) nothing
+exchange m Call.GetEmptyPic r = cond (isDone r && isMade m r) (makes (r .buf)) nothing
 exchange m (Call.PutPic flags poc tid gap) r =
-    cond (isAccepted r && putCallOf flags poc tid gap .«has_pic») (returns m (putCallOf flags poc tid gap)) nothing
+    cond (isDone r && putCallOf flags poc tid gap .«has_pic») (returns m (putCallOf flags poc tid gap)) nothing
 exchange m Call.OutPic r = nothing
 exchange m (Call.RefpInit slice poc layer intra limit) r = nothing
 exchange m (Call.PocDerivation L t) r = nothing
