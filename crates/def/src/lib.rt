@@ -1,5 +1,7 @@
 // The constants, the data and the refusals that every other crate shares.
 // Names are those of revc's def.rs, api/mod.rs, enc/mod.rs and picman.rs where it has them.
+pub mod word;
+
 ghost use mathlib.Core.Path.{_≡_};
 ghost use Rattle.def.specs.Constants.{sliceTypeOf};
 ghost use Rattle.def.specs.Refusals.{refusalNumber};

@@ -9,10 +9,11 @@ use def::MAX_PB_SIZE;
 use def::PocVal;
 use def::REFP_PLACES;
 use def::Slot;
+use def::word::signed_of;
 ghost use mathlib.Core.Path.{_≡_};
 ghost use Prim.Native.Nat.{_+_, _≤_, _<_};
 ghost use lib.ListN.{length};
-ghost use Rattle.def.specs.Word.{word, signedOf};
+ghost use Rattle.def.specs.Word.{word};
 ghost use Rattle.image.specs.Image.{slotWidth, refpWidth, imageLength, flagAt, wordAt, listAt, slotAt, pmOf, refpAt, refpOf, pocOf};
 
 fn read_flag(image: &[u8], at: usize) -> bool
@@ -34,17 +35,6 @@ fn read_word(image: &[u8], at: usize) -> u32
     ensures { λ r. ⌜ r ≡ wordAt (now (image .entry)) at ⌝ }
 {
     word_of(image[at], image[at + 1], image[at + 2], image[at + 3])
-}
-
-// A number of 32 bits in two's complement.
-fn signed_of(n: u32) -> i32
-    ensures { λ r. ⌜ r ≡ signedOf n ⌝ }
-{
-    if n < 0x8000_0000 {
-        n as i32
-    } else {
-        -1 - ((0xffff_ffff - n) as i32)
-    }
 }
 
 // The 21 list numbers of a picture or of a list entry.

@@ -7,30 +7,20 @@ use def::MAX_NUM_REF_PICS;
 use def::MAX_PB_SIZE;
 use def::REFP_PLACES;
 use def::Slot;
+use def::word::twos_complement;
 ghost use mathlib.Core.Path.{_≡_};
 ghost use mathlib.Core.List.{flatMap};
 ghost use Prim.Native.Nat.{_+_, _*_, _≤_};
 ghost use lib.ListN.{length};
 ghost use Rattle.seq.specs.Stores.{Stored};
 ghost use Rattle.def.specs.State.{listPlaces};
-ghost use Rattle.def.specs.Word.{wordBytes, twosComplement};
+ghost use Rattle.def.specs.Word.{wordBytes};
 ghost use Rattle.image.specs.Image.{wordWidth, slotWidth, refpWidth, leasePlace, scalarsPlace, refpPlace, pocPlace, imageLength, flagByte, listBytes, slotBytes, scalarBytes, pmBytes, refpBytes, pocBytes, imageBytes};
 
 fn flag_byte(b: bool) -> u8
     ensures { λ r. ⌜ r ≡ flagByte b ⌝ }
 {
     if b { 1 } else { 0 }
-}
-
-// A signed number in two's complement.
-fn twos_complement(z: i32) -> u32
-    ensures { λ r. ⌜ r ≡ twosComplement z ⌝ }
-{
-    if 0 <= z {
-        z as u32
-    } else {
-        0xffff_ffff - ((-1 - z) as u32)
-    }
 }
 
 fn write_word(image: &mut [u8], at: usize, n: u32)

@@ -1,2 +1,3 @@
 pub mod RowLaws
 pub mod KeyLaws
+pub mod ListRows

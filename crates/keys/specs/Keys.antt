@@ -9,6 +9,7 @@ use mathlib.Core.List.{List, map}
 use mir.Val.{boolByte}
 use lib.Dec.{eqb}
 use lib.ListN.{length, getD, take, drop, replicate}
+use Rattle.seq.specs.Lists.{select}
 use Rattle.seq.specs.Table.{entries}
 use Rattle.def.specs.State.{slots, listPlaces}
 use Rattle.def.specs.declared.{Slot.Slot, EvcPm.EvcPm, EvcRefP.EvcRefP, PmResult.PmResult, RefpResult.RefpResult}
@@ -163,3 +164,7 @@ withLease r lease size = record {
   «poc_next_output» = r .«poc_next_output»;
   «poc_increase» = r .«poc_increase»;
 }
+
+-- The buffer numbers that keys hold, as `buffersOf` says them of slots.
+abbrev pub keyBuffers : List ℕ → List ℕ
+keyBuffers keys = map keyBuffer (select keyPresent keys)

@@ -8,7 +8,7 @@ ghost use lib.Seq.{paste};
 ghost use Rattle.keys.specs.Keys.{rowCount, rowsLength, rowLength, rowAt};
 
 // The first `n` numbers of row `from` go to the front of another row.
-pub fn copy_row(rows: &mut [u32; ROWS], from: usize, to: usize, n: usize)
+pub fn copy_row(rows: &mut [u32], from: usize, to: usize, n: usize)
     requires { ⌜ (length (now rows) ≡ rowsLength) × (from < rowCount) × (to < rowCount) × (from ≡ to → ⊥) × (n ≤ rowLength) ⌝ }
     ensures { λ _. ⌜ now (rows .exit) ≡ paste (now (rows .entry)) (rowLength * to) (rowAt (now (rows .entry)) from) n ⌝ }
 {
@@ -22,7 +22,7 @@ pub fn copy_row(rows: &mut [u32; ROWS], from: usize, to: usize, n: usize)
 }
 
 // A row all zero.
-pub fn clear_row(rows: &mut [u32; ROWS], to: usize)
+pub fn clear_row(rows: &mut [u32], to: usize)
     requires { ⌜ (length (now rows) ≡ rowsLength) × (to < rowCount) ⌝ }
     ensures { λ _. ⌜ now (rows .exit) ≡ paste (now (rows .entry)) (rowLength * to) (replicate rowLength 0) rowLength ⌝ }
 {
@@ -35,7 +35,7 @@ pub fn clear_row(rows: &mut [u32; ROWS], to: usize)
 }
 
 // A row by value, written.
-pub fn write_row(rows: &mut [u32; ROWS], to: usize, numbers: &[u32; ROW])
+pub fn write_row(rows: &mut [u32], to: usize, numbers: &[u32; ROW])
     requires { ⌜ (length (now rows) ≡ rowsLength) × (length (now numbers) ≡ rowLength) × (to < rowCount) ⌝ }
     ensures { λ _. ⌜ now (rows .exit) ≡ paste (now (rows .entry)) (rowLength * to) (now (numbers .entry)) rowLength ⌝ }
 {
@@ -48,7 +48,7 @@ pub fn write_row(rows: &mut [u32; ROWS], to: usize, numbers: &[u32; ROW])
 }
 
 // A row by value, read.
-pub fn read_row(rows: &[u32; ROWS], from: usize) -> [u32; ROW]
+pub fn read_row(rows: &[u32], from: usize) -> [u32; ROW]
     requires { ⌜ (length (now rows) ≡ rowsLength) × (from < rowCount) ⌝ }
     ensures { λ r. ⌜ r ≡ rowAt (now (rows .entry)) from ⌝ }
 {

@@ -1,12 +1,19 @@
--- Document 01, "Program": an answer is the call byte, the status, the buffer number, four bytes and the check byte, in hex.
+-- Answer lines: an answer is the call byte, the status, the buffer number and four bytes.
 -- Assumes nothing.
 use Prim.Native.Nat.{ℕ, _+_, _*_}
+use mathlib.Core.Bool.{cond}
 use mathlib.Core.List.{List, [], _∷_, _++_}
+use mathlib.Core.Option.{Option, none, some}
+use lib.Dec.{eqb}
+use lib.ListN.{length}
 use Rattle.def.specs.declared.Answer.{Answer}
 use Rattle.def.specs.declared.Answer.the-variants.{Done, Picture, NotYet, NoMore, Counts, Refused}
 use Rattle.def.specs.Refusals.{refusalNumber}
 use Rattle.line.specs.declared.Reply.{Reply}
-use Rattle.line.specs.Hex.{digitsOf, checkByte, wordBytes}
+use Rattle.line.specs.Hex.{digitsOf, wordBytes}
+use Rattle.line.specs.Frame.{Kind, framed}
+use Rattle.line.specs.Calls.{byteAt, wordAt}
+pub use Rattle.line.specs.Lines.{newline}
 pub use Rattle.def.specs.Word.{twosComplement}
 
 -- Where there is no buffer number the line shows ff.
@@ -30,16 +37,21 @@ replyOf call (Refused why) = reply call (refusalNumber why) noBuffer 0
 abbrev pub badLineReply : Reply
 badLineReply = reply 0 18 noBuffer 0
 
+-- The body of an answer.
 abbrev pub replyBytes : Reply → List ℕ
 replyBytes r = (r .call) ∷ (r .status) ∷ (r .buf) ∷ wordBytes (r .value)
+
+-- Any body of seven bytes is an answer.
+abbrev pub replyIn : List ℕ → Option Reply
+replyIn b = cond (eqb (length b) 7) (some (reply (byteAt b 0) (byteAt b 1) (byteAt b 2) (wordAt b 3 4 5 6))) none
+
+unfoldable pub answerKind : Kind Reply
+answerKind = record { meaning = replyIn; body = replyBytes }
 
 -- The sixteen digits of an answer, and its line with the newline.
 unfoldable pub answerDigits : Reply → List ℕ
 unfolding digitsOf
-answerDigits r = digitsOf (replyBytes r ++ (checkByte (replyBytes r) ∷ []))
-
-abbrev pub newline : ℕ
-newline = 10
+answerDigits r = framed (replyBytes r)
 
 unfoldable pub answerLine : Reply → List ℕ
 unfolding answerDigits

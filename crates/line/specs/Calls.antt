@@ -1,25 +1,17 @@
--- Document 01, "Program": which lines are calls, and what their fields are. Any other line is 18.
+-- Call lines: which bodies are calls, and what their fields are. Any other line is bad, refusal 18.
 -- Assumes nothing.
 use Prim.Native.Nat.{ℕ}
-use mathlib.Core.Bool.{Bool, cond, not, _&&_, _||_}
-use mathlib.Core.List.{List}
-use lib.Dec.{leb, ltb, eqb}
+use mathlib.Core.Bool.{Bool, cond, _&&_}
+use mathlib.Core.List.{List, [], _∷_, _++_}
+use mathlib.Core.Option.{Option, none, some}
+use lib.Dec.{ltb, eqb}
 use lib.ListN.{length, getD}
 use Rattle.line.specs.declared.Call.{Call}
 use Rattle.line.specs.declared.Call.the-variants.{Init, GetEmptyPic, PutPic, OutPic, RefpInit, PocDerivation}
 use Rattle.line.specs.declared.Line.{Line}
 use Rattle.line.specs.declared.Line.the-variants.{Good, Bad}
-use Rattle.line.specs.Hex.{isHex, bytesOf, sum8, word}
-
--- The call bytes, and how many bytes a line of each has, check byte too; 0 for a byte that names no call.
-abbrev pub callLength : ℕ → ℕ
-callLength kind =
-    cond (eqb kind 1) 4
-    (cond (eqb kind 2) 2
-    (cond (eqb kind 3) 12
-    (cond (eqb kind 4) 2
-    (cond (eqb kind 5) 13
-    (cond (eqb kind 6) 4 0)))))
+use Rattle.line.specs.Hex.{bytesOf, sum8, word, wordBytes}
+use Rattle.line.specs.Frame.{bodyOf, Kind, fromBytes, fromLine, lineOf}
 
 -- The longest call line has 26 digits.
 abbrev pub longestLine : ℕ
@@ -31,29 +23,55 @@ byteAt bs i = getD bs i 0
 abbrev pub wordAt : List ℕ → ℕ → ℕ → ℕ → ℕ → ℕ
 wordAt bs i j k l = word (byteAt bs i) (byteAt bs j) (byteAt bs k) (byteAt bs l)
 
+-- A call's kind goes by its call byte, which stands first, and by the length of its body.
+abbrev pub isCall : ℕ → ℕ → List ℕ → Bool
+isCall call size body = eqb (byteAt body 0) call && eqb (length body) size
+
 -- The flags of a put are 1 IDR, 2 wanted for output, 4 reference, 8 no picture; higher bits are bad.
-abbrev pub badFlags : List ℕ → Bool
-badFlags bs = eqb (byteAt bs 0) 3 && ltb 15 (byteAt bs 1)
+abbrev pub badFlags : ℕ → Bool
+badFlags flags = ltb 15 flags
 
--- The call that the bytes of a good line stand for, by its first byte.
-abbrev pub callOf : List ℕ → Call
-callOf bs =
-    cond (eqb (byteAt bs 0) 1) (Init (byteAt bs 1) (byteAt bs 2))
-    (cond (eqb (byteAt bs 0) 2) GetEmptyPic
-    (cond (eqb (byteAt bs 0) 3) (PutPic (byteAt bs 1) (wordAt bs 2 3 4 5) (byteAt bs 6) (wordAt bs 7 8 9 10))
-    (cond (eqb (byteAt bs 0) 4) OutPic
-    (cond (eqb (byteAt bs 0) 5) (RefpInit (byteAt bs 1) (wordAt bs 2 3 4 5) (byteAt bs 6) (wordAt bs 7 8 9 10) (byteAt bs 11))
-    (PocDerivation (byteAt bs 1) (byteAt bs 2))))))
+abbrev pub putIn : List ℕ → Option Call
+putIn b =
+    cond (badFlags (byteAt b 1)) none
+    (some (PutPic (byteAt b 1) (wordAt b 2 3 4 5) (byteAt b 6) (wordAt b 7 8 9 10)))
 
--- The bytes of a call: a known call byte, the right length, a sum of zero, and good flags.
-abbrev pub areCall : List ℕ → Bool
-areCall bs =
-    ltb 0 (callLength (byteAt bs 0)) && eqb (length bs) (callLength (byteAt bs 0)) && eqb (sum8 bs) 0 && not (badFlags bs)
+abbrev pub listsIn : List ℕ → Call
+listsIn b = RefpInit (byteAt b 1) (wordAt b 2 3 4 5) (byteAt b 6) (wordAt b 7 8 9 10) (byteAt b 11)
 
+-- The call that a body stands for.
+unfoldable pub callIn : List ℕ → Option Call
+callIn b =
+    cond (isCall 1 3 b) (some (Init (byteAt b 1) (byteAt b 2)))
+    (cond (isCall 2 1 b) (some GetEmptyPic)
+    (cond (isCall 3 11 b) (putIn b)
+    (cond (isCall 4 1 b) (some OutPic)
+    (cond (isCall 5 12 b) (some (listsIn b))
+    (cond (isCall 6 3 b) (some (PocDerivation (byteAt b 1) (byteAt b 2))) none)))))
+
+-- The body of a call: its call byte, then its fields, numbers in four bytes, the highest first.
+abbrev pub callBytes : Call → List ℕ
+callBytes (Init size refs) = 1 ∷ size ∷ refs ∷ []
+callBytes GetEmptyPic = 2 ∷ []
+callBytes (PutPic flags poc layer gap) = 3 ∷ flags ∷ (wordBytes poc ++ (layer ∷ wordBytes gap))
+callBytes OutPic = 4 ∷ []
+callBytes (RefpInit slice poc layer intra limit) = 5 ∷ slice ∷ (wordBytes poc ++ (layer ∷ (wordBytes intra ++ (limit ∷ []))))
+callBytes (PocDerivation length layer) = 6 ∷ length ∷ layer ∷ []
+
+unfoldable pub callKind : Kind Call
+unfolding callIn
+callKind = record { meaning = callIn; body = callBytes }
+
+abbrev pub lineFor : Option Call → Line
+lineFor (some call) = Good call
+lineFor none = Bad
+
+-- The bytes of a call line, check byte last.
 unfoldable pub callFrom : List ℕ → Line
-callFrom bs = cond (areCall bs) (Good (callOf bs)) Bad
+unfolding sum8 bodyOf callKind
+callFrom bs = lineFor (fromBytes callKind bs)
 
--- A line, without its newline.
+-- The characters of a call line, without its newline.
 unfoldable pub readLine : List ℕ → Line
-unfolding bytesOf sum8 callFrom
-readLine cs = cond (isHex cs) (callFrom (bytesOf cs)) Bad
+unfolding bytesOf sum8 bodyOf callKind
+readLine cs = lineFor (fromLine callKind cs)

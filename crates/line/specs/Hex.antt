@@ -1,4 +1,4 @@
--- Document 01, "Program": a line is lower-case hex pairs; its bytes, check byte last, sum to zero, wrapping at 256.
+-- Hex digits: a line is written in pairs of them, a byte a pair.
 -- Assumes nothing.
 use Prim.Native.Nat.{ℕ, zero, suc, _+_, _-_, _*_, _/_, _%_}
 use mathlib.Core.Bool.{Bool, cond, _&&_, _||_}
@@ -6,9 +6,10 @@ use mathlib.Core.List.{List, [], _∷_, _++_}
 use lib.Dec.{leb, ltb, eqb}
 use lib.ListN.{length}
 use Rattle.seq.specs.Lists.{all}
+use Rattle.seq.specs.Table.{entries}
 pub use Rattle.def.specs.Word.{word, wordBytes}
 
--- 0 to 9 and a to f, as characters.
+-- 0 to 9 and a to f, as characters: lower case only.
 abbrev pub isDigit : ℕ → Bool
 isDigit c = (leb 48 c && leb c 57) || (leb 97 c && leb c 102)
 
@@ -40,3 +41,21 @@ sum8 (b ∷ bs) = (b + sum8 bs) % 256
 -- What brings the sum to zero.
 abbrev pub checkByte : List ℕ → ℕ
 checkByte bs = (256 - sum8 bs) % 256
+
+-- The table that readers and writers are lent: the value of each character, 255 where it is no digit, then the two digits of each byte,
+-- the high one in the low half.
+abbrev pub noDigit : ℕ
+noDigit = 255
+
+abbrev pub charValue : ℕ → ℕ
+charValue c = cond (isDigit c) (digitValue c) noDigit
+
+abbrev pub digitPair : ℕ → ℕ
+digitPair b = digitOf (b / 16) + 256 * digitOf (b % 16)
+
+abbrev pub tableEntry : ℕ → ℕ
+tableEntry i = cond (ltb i 256) (charValue i) (digitPair (i - 256))
+
+unfoldable pub digitTables : List ℕ
+unfolding entries
+digitTables = entries tableEntry 512

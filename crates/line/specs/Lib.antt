@@ -1,7 +1,8 @@
 pub mod Hex
-pub mod HexLaws
+pub mod Frame
 pub mod Calls
-pub mod CallLaws
+pub mod Lines
 pub mod Answers
-pub mod ReadBack
-pub mod CallBytes
+pub mod Scan
+pub mod Claims
+pub mod CallLaws

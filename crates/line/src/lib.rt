@@ -1,14 +1,18 @@
 // Lines of the program: calls that are read, answers that are written, both as lower-case hex pairs with a check byte.
+pub mod buffer;
+pub mod scan;
+pub mod tables;
+pub mod write;
+
 use def::Answer;
 ghost use mathlib.Core.Path.{_≡_};
-ghost use mathlib.Core.Bool.{true, _&&_};
-ghost use mathlib.Core.List.{[], _∷_, _++_};
+ghost use mathlib.Core.Bool.{true};
 ghost use Prim.Native.Nat.{_+_, _*_, _/_, _%_, _<_, _≤_};
-ghost use lib.Dec.{ltb, eqb};
 ghost use lib.ListN.{length, take};
 ghost use Rattle.seq.specs.Lists.{all};
-ghost use Rattle.line.specs.Hex.{isDigit, digitValue, bytesOf, digitOf, sum8, checkByte, word};
-ghost use Rattle.line.specs.Calls.{callLength, byteAt, wordAt, callOf, callFrom, readLine};
+ghost use Rattle.line.specs.Hex.{isDigit, digitValue, bytesOf, digitOf, sum8, word};
+ghost use Rattle.line.specs.Frame.{withCheck};
+ghost use Rattle.line.specs.Calls.{wordAt, isCall, putIn, listsIn, callIn, lineFor, callFrom, readLine};
 ghost use Rattle.line.specs.Answers.{noBuffer, reply, replyOf, replyBytes, answerLine};
 
 // The longest call line has 26 digits, and so 13 bytes.
@@ -55,6 +59,12 @@ pub enum Call {
 pub enum Line {
     Good(Call),
     Bad,
+}
+
+// What stands at a place of a buffer: a good line with its newline, its call and the place behind it, or anything else.
+pub enum LineAt {
+    Good(Call, usize),
+    Other,
 }
 
 // The fields of an answer line, without its check byte.
@@ -120,21 +130,6 @@ fn sum8(bytes: &[u8]) -> u8
     sum
 }
 
-// How many bytes the line of a call has, check byte too; 0 for a byte that names no call.
-fn call_length(kind: u8) -> usize
-    ensures { λ r. ⌜ r ≡ callLength kind ⌝ }
-{
-    match kind {
-        1 => 4,
-        2 => 2,
-        3 => 12,
-        4 => 2,
-        5 => 13,
-        6 => 4,
-        _ => 0,
-    }
-}
-
 // Four bytes, the highest first.
 fn word(a: u8, b: u8, c: u8, d: u8) -> u32
     ensures { λ r. ⌜ r ≡ word a b c d ⌝ }
@@ -150,63 +145,90 @@ fn word_at(bytes: &[u8], at: usize) -> u32
     word(bytes[at], bytes[at + 1], bytes[at + 2], bytes[at + 3])
 }
 
-// The call that bytes of the right length stand for.
-fn call_of(bytes: &[u8]) -> Call
-    requires { ⌜ (0 < length (now bytes)) × (length (now bytes) ≡ callLength (byteAt (now bytes) 0)) ⌝ }
-    ensures { λ r. ⌜ r ≡ callOf (now (bytes .entry)) ⌝ }
+// Whether a body is of the kind that a call byte and a length name.
+fn is_call(body: &[u8], call: u8, size: usize) -> bool
+    requires { ⌜ 0 < size ⌝ }
+    ensures { λ r. ⌜ r ≡ isCall call size (now (body .entry)) ⌝ }
 {
-    let kind = bytes[0];
-    match kind {
-        1 => Call::Init {
-            max_pb_size: bytes[1],
-            max_num_ref_pics: bytes[2],
-        },
-        2 => Call::GetEmptyPic,
-        3 => Call::PutPic {
-            flags: bytes[1],
-            poc: word_at(bytes, 2),
-            temporal_id: bytes[6],
-            ref_pic_gap_length: word_at(bytes, 7),
-        },
-        4 => Call::OutPic,
-        5 => Call::RefpInit {
-            slice_type: bytes[1],
-            poc: word_at(bytes, 2),
-            layer_id: bytes[6],
-            last_intra: word_at(bytes, 7),
-            max_num_ref_pics: bytes[11],
-        },
-        _ => Call::PocDerivation {
-            log2_sub_gop_length: bytes[1],
-            tid: bytes[2],
-        },
+    if body.len() != size {
+        return false;
+    }
+    body[0] == call
+}
+
+// A put, unless its flags have a bit above the four that mean something.
+fn put_in(body: &[u8]) -> Line
+    requires { ⌜ length (now body) ≡ 11 ⌝ }
+    ensures { λ r. ⌜ r ≡ lineFor (putIn (now (body .entry))) ⌝ }
+{
+    let flags = body[1];
+    if 15 < flags {
+        return Line::Bad;
+    }
+    Line::Good(Call::PutPic {
+        flags,
+        poc: word_at(body, 2),
+        temporal_id: body[6],
+        ref_pic_gap_length: word_at(body, 7),
+    })
+}
+
+fn lists_in(body: &[u8]) -> Call
+    requires { ⌜ length (now body) ≡ 12 ⌝ }
+    ensures { λ r. ⌜ r ≡ listsIn (now (body .entry)) ⌝ }
+{
+    Call::RefpInit {
+        slice_type: body[1],
+        poc: word_at(body, 2),
+        layer_id: body[6],
+        last_intra: word_at(body, 7),
+        max_num_ref_pics: body[11],
     }
 }
 
-// Whether a put's flags have a bit above the four that mean something.
-fn bad_flags(kind: u8, flags: u8) -> bool
-    ensures { λ r. ⌜ r ≡ (eqb kind 3 && ltb 15 flags) ⌝ }
+// The call that a body stands for, by its call byte and its length.
+fn call_in(body: &[u8]) -> Line
+    ensures { λ r. ⌜ r ≡ lineFor (callIn (now (body .entry))) ⌝ }
 {
-    (kind == 3) & (15 < flags)
+    if is_call(body, 1, 3) {
+        return Line::Good(Call::Init {
+            max_pb_size: body[1],
+            max_num_ref_pics: body[2],
+        });
+    }
+    if is_call(body, 2, 1) {
+        return Line::Good(Call::GetEmptyPic);
+    }
+    if is_call(body, 3, 11) {
+        return put_in(body);
+    }
+    if is_call(body, 4, 1) {
+        return Line::Good(Call::OutPic);
+    }
+    if is_call(body, 5, 12) {
+        return Line::Good(lists_in(body));
+    }
+    if is_call(body, 6, 3) {
+        return Line::Good(Call::PocDerivation {
+            log2_sub_gop_length: body[1],
+            tid: body[2],
+        });
+    }
+    Line::Bad
 }
 
 // The bytes of a call line, check byte last.
 pub fn read_call(bytes: &[u8]) -> Line
     ensures { λ r. ⌜ r ≡ callFrom (now (bytes .entry)) ⌝ }
 {
-    if bytes.len() < 2 {
-        return Line::Bad;
-    }
-    if bytes.len() != call_length(bytes[0]) {
+    if bytes.len() == 0 {
         return Line::Bad;
     }
     if sum8(bytes) != 0 {
         return Line::Bad;
     }
-    if bad_flags(bytes[0], bytes[1]) {
-        return Line::Bad;
-    }
-    Line::Good(call_of(bytes))
+    let n = bytes.len() - 1;
+    call_in(&bytes[..n])
 }
 
 // The characters of a line, without its newline.
@@ -271,7 +293,7 @@ pub fn reply_of(call: u8, answer: Answer) -> Reply
 
 // The bytes of an answer, check byte last.
 pub fn answer_bytes(reply: Reply) -> [u8; 8]
-    ensures { λ r. ⌜ r ≡ replyBytes reply ++ (checkByte (replyBytes reply) ∷ []) ⌝ }
+    ensures { λ r. ⌜ r ≡ withCheck (replyBytes reply) ⌝ }
 {
     let value = reply.value;
     let mut bytes = [

@@ -1,10 +1,3 @@
 pub mod Step
-pub mod Run
-pub mod Pieces
-pub mod Partial
-pub mod Feeding
-pub mod Kept
-pub mod EveryCall
-pub mod OnWhole
-pub mod Turns
-pub mod Session
+pub mod Running
+pub mod Claims

@@ -3,12 +3,13 @@ use def::PutCall;
 use def::RefpCall;
 use def::refusal_number;
 use def::slice_type_of;
+use def::word::signed_of;
+use def::word::twos_complement;
 use line::Reply;
 use poc::PocAnswer;
 ghost use mathlib.Core.Path.{_≡_};
 ghost use Prim.Native.Nat.{_<_};
-ghost use Rattle.line.specs.Answers.{twosComplement};
-ghost use Rattle.machine.specs.Step.{flag, putCallOf, signedOf, refpCallOf, derivedReply};
+ghost use Rattle.machine.specs.Step.{flag, putCallOf, refpCallOf, derivedReply};
 
 // The call byte of a derivation, and the buffer number that its answer shows.
 const POC_DERIVATION: u8 = 6;
@@ -38,16 +39,6 @@ pub fn put_call_of(flags: u8, poc: u32, temporal_id: u8, ref_pic_gap_length: u32
     }
 }
 
-// Four bytes as a signed number, in two's complement.
-fn signed_of(n: u32) -> i32
-    ensures { λ r. ⌜ r ≡ signedOf n ⌝ }
-{
-    if n < 0x8000_0000 {
-        return n as i32;
-    }
-    !((!n) as i32)
-}
-
 pub fn refp_call_of(
     slice_type: u8,
     poc: u32,
@@ -64,16 +55,6 @@ pub fn refp_call_of(
         last_intra: signed_of(last_intra),
         max_num_ref_pics,
     }
-}
-
-// A signed number as four bytes, in two's complement.
-fn twos_complement(n: i32) -> u32
-    ensures { λ r. ⌜ r ≡ twosComplement n ⌝ }
-{
-    if n < 0 {
-        return !((!n) as u32);
-    }
-    n as u32
 }
 
 // The fields of the answer to a derivation.

@@ -1,5 +1,6 @@
 // The program starts from the new state, lists and record all zero.
 use crate::Machine;
+use crate::Scalars;
 use def::DocOffset;
 use def::EvcPm;
 use def::EvcPoc;
@@ -9,10 +10,12 @@ use def::MAX_PB_SIZE;
 use def::PocVal;
 use def::REFP_PLACES;
 use def::empty_slot;
+use keys::Rest;
 ghost use mathlib.Core.Path.{_≡_};
 ghost use lib.IntN.{pos};
 ghost use Rattle.def.specs.State.{newPm};
 ghost use Rattle.poc.specs.PictureNumber.{recordOf};
+ghost use Rattle.machine.specs.Running.{newScalars};
 ghost use Rattle.machine.specs.Step.{newRefP, newLists, newMachine};
 
 pub fn new_pm() -> EvcPm
@@ -63,4 +66,23 @@ pub fn new_machine() -> Machine
     let refp = new_refp();
     let poc = new_poc();
     Machine { pm, refp, poc }
+}
+
+// The scalars of the new machine; its keys and rows are all zero.
+pub fn new_scalars() -> Scalars
+    ensures { λ r. ⌜ r ≡ newScalars ⌝ }
+{
+    let rest = Rest {
+        lease: 0,
+        max_pb_size: 0,
+        max_num_ref_pics: 0,
+        cur_pb_size: 0,
+        cur_num_ref_pics: 0,
+        num_refp_0: 0,
+        num_refp_1: 0,
+        poc_next_output: 0,
+        poc_increase: 0,
+    };
+    let poc = new_poc();
+    Scalars { rest, poc }
 }

@@ -1,4 +1,3 @@
 pub mod Marking
-pub mod Steps
-pub mod Kept
-pub mod Limits
+pub mod OnKeys
+pub mod Claims

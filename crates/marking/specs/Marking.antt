@@ -8,13 +8,11 @@ use Rattle.seq.specs.Lists.{count, selectAt, moveTo}
 use Rattle.def.specs.declared.Slot.{Slot}
 use Rattle.def.specs.declared.EvcPm.{EvcPm}
 use Rattle.def.specs.State.{noSlot, isMarked, unmarked, withStore}
+pub use Rattle.store.specs.Search.{lastSlot}
 
 -- Marking leaves at most 4 marked: the sliding limit is 5.
 abbrev pub mostMarked : ℕ
 mostMarked = 4
-
-abbrev pub lastSlot : ℕ
-lastSlot = 26
 
 -- First, these are unmarked: a reference of a layer above 0, or one in a slot above 0 whose number is no multiple of a gap above 0.
 abbrev pub outdated : ℕ → ℕ → Slot → Bool
@@ -22,11 +20,15 @@ outdated gap i s =
     isMarked s
     && (ltb 0 (s .pic .«temporal_id») || (ltb 0 i && (ltb 0 gap && not (eqb (s .pic .poc % gap) 0))))
 
--- Each slot that the test picks goes, unmarked, to slot 26 in slot order, and those above it slide down one: the slots that are kept, in order,
--- and behind them those picked, in order. Every slot is tested in its place before anything moves.
+-- Each element that the test picks goes, changed by f, to the end, in order, and those above it slide down one: those kept, in order, and behind
+-- them those picked, in order. Every element is tested in its place before anything moves.
+abbrev pub swept : {A : Type 0} → (A → A) → (ℕ → A → Bool) → List A → List A
+swept f picks xs = selectAt (λ i x. not (picks i x)) 0 xs ++ map f (selectAt picks 0 xs)
+
+-- Each slot that the test picks goes, unmarked, to slot 26 in slot order.
 unfoldable pub sweep : (ℕ → Slot → Bool) → List Slot → List Slot
 unfolding selectAt
-sweep picks xs = selectAt (λ i s. not (picks i s)) 0 xs ++ map unmarked (selectAt picks 0 xs)
+sweep picks xs = swept unmarked picks xs
 
 -- Then, while 5 or more are marked, the first marked slot is unmarked and noted: so many of the first marked slots as are over 4.
 unfoldable pub excess : List Slot → ℕ

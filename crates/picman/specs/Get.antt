@@ -2,9 +2,9 @@
 -- Assumes nothing.
 use Prim.Native.Nat.{ℕ, _-_}
 use mathlib.Core.Bool.{cond, not}
-use lib.Dec.{leb, ltb}
+use lib.Dec.{leb}
 use lib.ListN.{getD}
-use Rattle.seq.specs.Lists.{count, lowest, removeAt, smallestNotIn}
+use Rattle.seq.specs.Lists.{any, count, lowest, removeAt, smallestNotIn}
 use Rattle.def.specs.declared.Slot.{Slot}
 use Rattle.def.specs.declared.EvcPm.{EvcPm}
 use Rattle.def.specs.declared.PmResult.{PmResult}
@@ -12,7 +12,7 @@ use Rattle.def.specs.declared.Answer.{Answer}
 use Rattle.def.specs.declared.Answer.the-variants.{Picture, Refused}
 use Rattle.def.specs.declared.Refusal.{Refusal}
 use Rattle.def.specs.declared.Refusal.the-variants.{StoreFull, PictureLeased, StateNotWhole}
-use Rattle.def.specs.State.{slots, newPic, emptySlot, noSlot, held, isIdle, withStore}
+use Rattle.def.specs.State.{newPic, emptySlot, noSlot, held, isIdle, withStore}
 use Rattle.whole.specs.Whole.{whole, isPresent, buffersOf}
 
 -- A call turned down leaves the state as it was.
@@ -42,16 +42,16 @@ fresh pm =
       pm = withStore pm (pm .pic) (held newPic (freeBuffer pm)) (pm .«cur_pb_size») (pm .«cur_num_ref_pics»);
     }
 
--- Where no picture is idle: 2.
+-- With no idle picture: store full (2) where the occupied slots are at or above the store size.
 abbrev pub getNew : EvcPm → PmResult
 getNew pm = cond (leb (pm .«max_pb_size») (count isPresent (pm .pic))) (refused StoreFull pm) (fresh pm)
 
--- On a whole state: 3, 2.
+-- On a whole state: a picture still leased (3); the lowest idle picture is taken out, else a new one is made.
 unfoldable pub getWhole : EvcPm → PmResult
 getWhole pm =
     cond (pm .«pic_lease» .present) (refused PictureLeased pm)
-    (cond (ltb (lowest isIdle (pm .pic)) slots) (reuse pm (lowest isIdle (pm .pic))) (getNew pm))
+    (cond (any isIdle (pm .pic)) (reuse pm (lowest isIdle (pm .pic))) (getNew pm))
 
--- 7, 3, 2.
+-- In the order of its refusals: 7, 3, 2.
 unfoldable pub get : EvcPm → PmResult
 get pm = cond (not (whole pm)) (refused StateNotWhole pm) (getWhole pm)

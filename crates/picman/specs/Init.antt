@@ -17,6 +17,6 @@ initWhole pm size refs =
     cond (ltb slots size || ltb listPlaces refs) (refused SizeTooBig pm)
     (record { answer = Done; pm = withLimits pm size refs })
 
--- 7, 1.
+-- In the order of its refusals: 7, 1.
 unfoldable pub init : EvcPm → ℕ → ℕ → PmResult
 init pm size refs = cond (not (whole pm)) (refused StateNotWhole pm) (initWhole pm size refs)

@@ -2,13 +2,5 @@ pub mod Get
 pub mod Put
 pub mod Out
 pub mod Init
-pub mod GetCases
-pub mod GetKeeps
-pub mod GetLaws
-pub mod InitLaws
-pub mod Keeps
-pub mod OutCases
-pub mod OutLaws
-pub mod Places
-pub mod PutLaws
-pub mod PutSteps
+pub mod OnKeys
+pub mod Claims

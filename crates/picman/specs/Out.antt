@@ -2,7 +2,7 @@
 -- Assumes nothing.
 use Prim.Native.Nat.{ℕ, _+_}
 use mathlib.Core.Bool.{Bool, cond, not, _&&_}
-use lib.Dec.{leb, ltb}
+use lib.Dec.{leb}
 use lib.ListN.{getD, set}
 use Rattle.seq.specs.Lists.{any, lowest}
 use Rattle.def.specs.declared.Slot.{Slot}
@@ -10,7 +10,7 @@ use Rattle.def.specs.declared.EvcPm.{EvcPm}
 use Rattle.def.specs.declared.PmResult.{PmResult}
 use Rattle.def.specs.declared.Answer.the-variants.{NotYet, NoMore}
 use Rattle.def.specs.declared.Refusal.the-variants.{StateNotWhole}
-use Rattle.def.specs.State.{slots, noSlot, isWanted, handedOver, withOutput}
+use Rattle.def.specs.State.{noSlot, isWanted, handedOver, withOutput}
 use Rattle.whole.specs.Whole.{whole}
 use Rattle.picman.specs.Get.{refused, shown}
 
@@ -31,12 +31,13 @@ handOver pm i =
 abbrev pub noneDue : EvcPm → PmResult
 noneDue pm = record { answer = cond (any isWanted (pm .pic)) NotYet NoMore; pm = pm }
 
+-- On a whole state: the lowest slot that is due is handed over, if there is one.
 unfoldable pub outWhole : EvcPm → PmResult
 outWhole pm =
-    cond (ltb (lowest (isDue (pm .«poc_next_output»)) (pm .pic)) slots)
+    cond (any (isDue (pm .«poc_next_output»)) (pm .pic))
     (handOver pm (lowest (isDue (pm .«poc_next_output»)) (pm .pic)))
     (noneDue pm)
 
--- 7.
+-- Its one refusal: 7.
 unfoldable pub out : EvcPm → PmResult
 out pm = cond (not (whole pm)) (refused StateNotWhole pm) (outWhole pm)

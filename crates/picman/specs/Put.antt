@@ -50,20 +50,29 @@ placedAt i c numbers pm =
     withStore pm (set (pm .pic) i (held (taken c numbers) (pm .«pic_lease» .buf))) emptySlot (pm .«cur_pb_size» + 1)
     (cond (c .«ref_pic») (pm .«cur_num_ref_pics» + 1) (pm .«cur_num_ref_pics»))
 
--- On a whole state, with the leased picture's list numbers: 6, 4, 5. A put of no picture only marks, and the lease stays.
-unfoldable pub putListed : EvcPm → List ℕ → PutCall → PmResult
-putListed pm numbers c =
-    cond (not (c .«has_pic»)) (record { answer = Done; pm = remarked c pm })
+-- The second part of a put, over the state q that marking made of pm: slot taken (5), which gives back pm, marks included; else the leased
+-- picture is placed.
+unfoldable pub place : EvcPm → EvcPm → List EvcRefP → PutCall → PmResult
+place pm q refp c =
+    cond (slotTaken c q) (refused SlotTaken pm)
+    (record {
+      answer = Picture (q .«pic_lease» .buf) (c .poc);
+      pm = placedAt (placeFor c q) c (listed (q .«num_refp_0») refp (q .«pic_lease» .pic)) q;
+    })
+
+-- Mark, then place: q is pm marked, and isWhole says whether pm is whole. In the order of its refusals: state not whole (7), number too high (6),
+-- nothing leased (4), and by `place` slot taken (5). A put of no picture only marks, and the lease stays.
+unfoldable pub putMarked : Bool → EvcPm → EvcPm → List EvcRefP → PutCall → PmResult
+unfolding place
+putMarked isWhole pm q refp c =
+    cond (not isWhole) (refused StateNotWhole pm)
+    (cond (not (c .«has_pic»)) (record { answer = Done; pm = q })
     (cond (ltb highestPoc (c .poc)) (refused NumberTooHigh pm)
     (cond (isEmpty (pm .«pic_lease»)) (refused NoLease pm)
-    (cond (slotTaken c (remarked c pm)) (refused SlotTaken pm)
-    (record { answer = Picture (pm .«pic_lease» .buf) (c .poc); pm = placedAt (placeFor c (remarked c pm)) c numbers (remarked c pm) }))))
+    (place pm q refp c))))
 
--- Marking touches neither the lease nor the forward count.
 abbrev pub putWhole : EvcPm → List EvcRefP → PutCall → PmResult
-putWhole pm refp c = putListed pm (listed (pm .«num_refp_0») refp (pm .«pic_lease» .pic)) c
+putWhole pm refp c = putMarked true pm (remarked c pm) refp c
 
--- 7, 6, 4, 5.
-unfoldable pub put : EvcPm → List EvcRefP → PutCall → PmResult
-unfolding whole putListed
-put pm refp c = cond (not (whole pm)) (refused StateNotWhole pm) (putWhole pm refp c)
+abbrev pub put : EvcPm → List EvcRefP → PutCall → PmResult
+put pm refp c = putMarked (whole pm) pm (remarked c pm) refp c

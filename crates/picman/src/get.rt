@@ -1,100 +1,79 @@
 // Get: the lowest idle picture is taken out of the store and leased, else a new one is made.
 ghost use mathlib.Core.Path.{_≡_};
 ghost use mathlib.Core.Bool.{true};
-ghost use Prim.Native.Nat.{_<_};
+ghost use Prim.Native.Nat.{_*_, _<_, _≤_};
+ghost use lib.ListN.{length, getD, replicate};
+ghost use lib.Seq.{paste};
+ghost use Rattle.seq.specs.Lists.{removeAt};
+ghost use Rattle.def.specs.State.{slots, highestPoc};
+ghost use Rattle.keys.specs.Keys.{keyNumber, rowLength, stands, Sized};
+ghost use Rattle.store.specs.Search.{keyFree};
 ghost use Rattle.whole.specs.Whole.{whole};
-ghost use Rattle.picman.specs.Get.{reuse, fresh, getNew, getWhole, get};
+ghost use Rattle.picman.specs.Get.{getWhole};
+ghost use Rattle.picman.specs.OnKeys.{keyReused, keyLeased, Calls};
+use crate::refuse;
 use def::Answer;
-use def::EvcPm;
-use def::PmResult;
 use def::Refusal;
-use def::Slot;
-use def::new_pic;
-use store::moves::picman_remove_pic_from_pb;
-use store::search::Found;
+use keys::Called;
+use keys::Rest;
+use keys::SLOTS;
+use keys::key::buffer_byte;
+use keys::key::is_present;
+use keys::key::number_of;
+use keys::row::clear_row;
+use store::moves::remove_key;
 use store::search::free_buffer;
-use store::search::picman_get_empty_pic_from_list;
-use store::search::picman_get_num_allocated_pics;
-use whole::is_whole;
+use store::search::lowest_idle;
 
 // The picture at `pos` is taken out of the store and leased, as it is.
-fn reuse_pic(pm: EvcPm, pos: usize) -> PmResult
-    requires { ⌜ (pos < 27) × (0 < pm .«cur_pb_size») ⌝ }
-    ensures { λ r. ⌜ r ≡ reuse pm pos ⌝ }
+fn reuse_pic(keys: &mut [u64], rest: Rest, pos: usize) -> Called
+    requires { ⌜ (length (now keys) ≡ slots) × (pos < slots) × (0 < rest .«cur_pb_size») × (keyNumber (getD (now keys) pos 0) ≤ highestPoc) ⌝ }
+    ensures { λ r. ⌜ (r ≡ keyReused (now (keys .entry)) rest pos) × (now (keys .exit) ≡ removeAt 0 pos (now (keys .entry))) ⌝ }
 {
-    let pic = pm.pic;
-    let lease = pic[pos];
-    let rest = picman_remove_pic_from_pb(pic, pos);
-    let mut next = pm;
-    next.pic = rest;
-    next.pic_lease = lease;
-    next.cur_pb_size = next.cur_pb_size - 1;
-    PmResult {
-        answer: Answer::Picture(lease.buf, lease.pic.poc),
-        pm: next,
+    let k = keys[pos];
+    remove_key(keys, pos);
+    let mut after = rest;
+    after.lease = k;
+    after.cur_pb_size = after.cur_pb_size - 1;
+    Called {
+        answer: Answer::Picture(buffer_byte(k), number_of(k)),
+        rest: after,
     }
 }
 
-// A new picture is leased under the smallest buffer number that no slot holds.
-fn lease_new_pic(pm: EvcPm) -> PmResult
-    ensures { λ r. ⌜ r ≡ fresh pm ⌝ }
+// A new picture, all zero, is leased under the smallest buffer number that no slot holds.
+fn lease_new_pic(keys: &[u64], rows: &mut [u32], rest: Rest) -> Called
+    requires { ⌜ Sized (now keys) (now rows) × (keyFree (now keys) < slots) ⌝ }
+    ensures { λ r.
+        let free = keyFree (now (keys .entry)) in
+        ⌜ (r ≡ keyLeased free rest) × (now (rows .exit) ≡ paste (now (rows .entry)) (rowLength * free) (replicate rowLength 0) rowLength) ⌝ }
 {
-    let pic = pm.pic;
-    let buf = free_buffer(pic);
-    let made = new_pic();
-    let lease = Slot {
-        present: true,
-        buf,
-        pic: made,
-    };
-    let mut next = pm;
-    next.pic_lease = lease;
-    PmResult {
-        answer: Answer::Picture(buf, 0),
-        pm: next,
+    let buf = free_buffer(keys);
+    clear_row(rows, buf);
+    let mut after = rest;
+    after.lease = buf as u64 * 8 + 1;
+    Called {
+        answer: Answer::Picture(buf as u8, 0),
+        rest: after,
     }
-}
-
-// No picture is idle: the store has room for a new one, or is full.
-fn get_new_pic(pm: EvcPm) -> PmResult
-    ensures { λ r. ⌜ r ≡ getNew pm ⌝ }
-{
-    let pic = pm.pic;
-    if pm.max_pb_size <= picman_get_num_allocated_pics(pic) {
-        return PmResult {
-            answer: Answer::Refused(Refusal::StoreFull),
-            pm,
-        };
-    }
-    lease_new_pic(pm)
 }
 
 // On a whole state.
-pub fn get_whole(pm: EvcPm) -> PmResult
-    requires { ⌜ whole pm ≡ true ⌝ }
-    ensures { λ r. ⌜ r ≡ getWhole pm ⌝ }
+pub fn get(keys: &mut [u64], rows: &mut [u32], rest: Rest) -> Called
+    requires { ⌜ Sized (now keys) (now rows) × (whole (stands (now keys) (now rows) rest) ≡ true) ⌝ }
+    ensures { λ r.
+        let before = stands (now (keys .entry)) (now (rows .entry)) rest in
+        ⌜ Calls r (now (keys .entry)) (now (rows .entry)) rest (now (keys .exit)) (now (rows .exit)) (getWhole before) ⌝ }
 {
-    if pm.pic_lease.present {
-        return PmResult {
-            answer: Answer::Refused(Refusal::PictureLeased),
-            pm,
-        };
+    if is_present(rest.lease) {
+        return refuse(rest, Refusal::PictureLeased);
     }
-    let pic = pm.pic;
-    match picman_get_empty_pic_from_list(pic) {
-        Found::At(pos) => reuse_pic(pm, pos),
-        Found::Nothing => get_new_pic(pm),
+    let pos = lowest_idle(keys);
+    if pos < SLOTS {
+        return reuse_pic(keys, rest, pos);
     }
-}
-
-pub fn evc_picman_get_empty_pic(pm: EvcPm) -> PmResult
-    ensures { λ r. ⌜ r ≡ get pm ⌝ }
-{
-    if !is_whole(pm) {
-        return PmResult {
-            answer: Answer::Refused(Refusal::StateNotWhole),
-            pm,
-        };
+    if rest.max_pb_size <= rest.cur_pb_size {
+        return refuse(rest, Refusal::StoreFull);
     }
-    get_whole(pm)
+    lease_new_pic(keys, rows, rest)
 }

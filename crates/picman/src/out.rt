@@ -1,106 +1,96 @@
 // Out: the lowest slot wanted for output whose number is due is handed over.
 ghost use mathlib.Core.Path.{_≡_};
-ghost use mathlib.Core.Bool.{true};
-ghost use Prim.Native.Nat.{_<_, _≤_};
-ghost use lib.ListN.{getD};
+ghost use mathlib.Core.List.{List};
+ghost use Prim.Native.Nat.{ℕ, _<_, _≤_};
+ghost use lib.ListN.{length, getD, set};
 ghost use Rattle.seq.specs.Lists.{any, lowest};
-ghost use Rattle.def.specs.State.{isWanted, noSlot};
-ghost use Rattle.store.specs.Search.{foundAt};
-ghost use Rattle.whole.specs.Whole.{whole};
-ghost use Rattle.picman.specs.Out.{isDue, handOver, noneDue, outWhole, out};
+ghost use Rattle.def.specs.State.{slots, highestPoc};
+ghost use Rattle.keys.specs.Keys.{keyNumber, keyWanted, keyHandedOver, rowsLength, stands};
+ghost use Rattle.picman.specs.Out.{outWhole};
+ghost use Rattle.picman.specs.OnKeys.{keyDue, keyGiven, NumbersFit, Calls};
 use def::Answer;
-use def::EvcPm;
-use def::MAX_PB_SIZE;
-use def::PmResult;
-use def::Refusal;
-use def::Slot;
-use store::search::Found;
-use whole::is_whole;
+use keys::Called;
+use keys::Rest;
+use keys::SLOTS;
+use keys::key::buffer_byte;
+use keys::key::is_wanted;
+use keys::key::number_of;
 
-fn lowest_due(pic: [Slot; MAX_PB_SIZE], poc_next_output: u32) -> Found
-    ensures { λ r. ⌜ r ≡ foundAt (lowest (isDue «poc_next_output») pic) ⌝ }
+fn is_due(key: u64, poc_next_output: u32) -> bool
+    ensures { λ r. ⌜ r ≡ keyDue «poc_next_output» key ⌝ }
+{
+    is_wanted(key) & (key / 65536 <= poc_next_output as u64)
+}
+
+fn lowest_due(keys: &[u64], poc_next_output: u32) -> usize
+    requires { ⌜ length (now keys) ≡ slots ⌝ }
+    ensures { λ r. ⌜ r ≡ lowest (keyDue «poc_next_output») (now (keys .entry)) ⌝ }
 {
     let mut i: usize = 0;
-    while i < MAX_PB_SIZE {
-        let s = pic[i];
-        if (s.present & s.pic.need_for_out) & (s.pic.poc <= poc_next_output) {
-            return Found::At(i);
+    while i < SLOTS {
+        if is_due(keys[i], poc_next_output) {
+            return i;
         }
         i = i + 1;
     }
-    Found::Nothing
+    i
 }
 
-fn any_need_for_out(pic: [Slot; MAX_PB_SIZE]) -> bool
-    ensures { λ r. ⌜ r ≡ any isWanted pic ⌝ }
+fn any_need_for_out(keys: &[u64]) -> bool
+    requires { ⌜ length (now keys) ≡ slots ⌝ }
+    ensures { λ r. ⌜ r ≡ any keyWanted (now (keys .entry)) ⌝ }
 {
     let mut any = false;
     let mut i: usize = 0;
-    while i < MAX_PB_SIZE {
-        let s = pic[i];
-        any = any | (s.present & s.pic.need_for_out);
+    while i < SLOTS {
+        any = any | is_wanted(keys[i]);
         i = i + 1;
     }
     any
 }
 
+fn handed_over(key: u64) -> u64
+    ensures { λ r. ⌜ r ≡ keyHandedOver key ⌝ }
+{
+    key - key / 4 % 2 * 4
+}
+
 // The picture at `pos` is handed over: its flag clears, and the next output number is its number plus the step.
-fn hand_over(pm: EvcPm, pos: usize) -> PmResult
-    requires { ⌜ (pos < 27) × (getD (pm .pic) pos noSlot .pic .poc ≤ 2147483647) ⌝ }
-    ensures { λ r. ⌜ r ≡ handOver pm pos ⌝ }
+fn hand_over(keys: &mut [u64], rest: Rest, pos: usize) -> Called
+    requires { ⌜ (length (now keys) ≡ slots) × (pos < slots) × (keyNumber (getD (now keys) pos 0) ≤ highestPoc) ⌝ }
+    ensures { λ r.
+        let k = getD (now (keys .entry)) pos 0 in
+        ⌜ (r ≡ keyGiven k rest) × (now (keys .exit) ≡ set (now (keys .entry)) pos (keyHandedOver k)) ⌝ }
 {
-    let mut next = pm;
-    let pic = pm.pic;
-    let s = pic[pos];
-    let buf = s.buf;
-    let poc = s.pic.poc;
-    let mut given = s;
-    given.pic.need_for_out = false;
-    next.pic[pos] = given;
-    next.poc_next_output = poc + pm.poc_increase as u32;
-    PmResult {
-        answer: Answer::Picture(buf, poc),
-        pm: next,
+    let k = keys[pos];
+    let poc = number_of(k);
+    keys[pos] = handed_over(k);
+    let mut after = rest;
+    after.poc_next_output = poc + rest.poc_increase as u32;
+    Called {
+        answer: Answer::Picture(buffer_byte(k), poc),
+        rest: after,
     }
 }
 
-// Nothing is due: some pictures are wanted for output, or none is.
-fn none_due(pm: EvcPm) -> PmResult
-    ensures { λ r. ⌜ r ≡ noneDue pm ⌝ }
+// On the keys of a whole state, whose pictures' numbers fit; the rows are not looked at.
+pub fn out(keys: &mut [u64], rest: Rest) -> Called
+    requires { ⌜ (length (now keys) ≡ slots) × NumbersFit (now keys) ⌝ }
+    ensures { λ r. ⌜ ((rows : List ℕ) → length rows ≡ rowsLength
+        → Calls r (now (keys .entry)) rows rest (now (keys .exit)) rows (outWhole (stands (now (keys .entry)) rows rest))) ⌝ }
 {
-    let pic = pm.pic;
-    if any_need_for_out(pic) {
-        return PmResult {
+    let pos = lowest_due(keys, rest.poc_next_output);
+    if pos < SLOTS {
+        return hand_over(keys, rest, pos);
+    }
+    if any_need_for_out(keys) {
+        return Called {
             answer: Answer::NotYet,
-            pm,
+            rest,
         };
     }
-    PmResult {
+    Called {
         answer: Answer::NoMore,
-        pm,
+        rest,
     }
-}
-
-// On a whole state.
-pub fn out_whole(pm: EvcPm) -> PmResult
-    requires { ⌜ whole pm ≡ true ⌝ }
-    ensures { λ r. ⌜ r ≡ outWhole pm ⌝ }
-{
-    let pic = pm.pic;
-    match lowest_due(pic, pm.poc_next_output) {
-        Found::At(pos) => hand_over(pm, pos),
-        Found::Nothing => none_due(pm),
-    }
-}
-
-pub fn evc_picman_out_pic(pm: EvcPm) -> PmResult
-    ensures { λ r. ⌜ r ≡ out pm ⌝ }
-{
-    if !is_whole(pm) {
-        return PmResult {
-            answer: Answer::Refused(Refusal::StateNotWhole),
-            pm,
-        };
-    }
-    out_whole(pm)
 }

@@ -1,145 +1,185 @@
-// Put: marking, then the leased picture goes into the store.
+// Put: marking, then the leased picture goes into the store. Marking goes into `next`, so that a put that is turned down after it finds the keys
+// as they were.
 ghost use mathlib.Core.Path.{_≡_};
 ghost use mathlib.Core.Bool.{true};
-ghost use Prim.Native.Nat.{_≤_, _<_};
+ghost use mathlib.Core.List.{List};
+ghost use Prim.Native.Nat.{ℕ, _<_};
+ghost use lib.ListN.{length};
+ghost use Rattle.def.specs.State.{slots};
+ghost use Rattle.keys.specs.Keys.{keyPresent, rowsLength, listsIn, stands, Sized, Comes};
 ghost use Rattle.whole.specs.Whole.{whole};
-ghost use Rattle.picman.specs.Get.{refused};
-ghost use Rattle.picman.specs.Put.{listed, remarked, placedAt, putListed, put};
+ghost use Rattle.picman.specs.Put.{place, putWhole};
+ghost use Rattle.picman.specs.OnKeys.{marksAnew, withRefs, onlyMarked, keyPlace, PlaceRoom, Placed, Remarked, Calls};
+use crate::refuse;
 use def::Answer;
-use def::EvcPic;
-use def::EvcPm;
-use def::EvcRefP;
-use def::MAX_NUM_REF_PICS;
 use def::MAX_POC;
-use def::PmResult;
 use def::PutCall;
-use def::REFP_PLACES;
 use def::Refusal;
-use def::Slot;
-use def::empty_slot;
+use keys::Called;
+use keys::NUMBER_ROW;
+use keys::Rest;
+use keys::SLOTS;
+use keys::key::buffer_byte;
+use keys::key::buffer_of;
+use keys::key::is_present;
+use keys::key::key_of;
+use keys::row::copy_row;
 use marking::pic_marking_no_rpl;
 use marking::picman_flush_pb;
-use store::search::highest_empty_slot;
-use whole::is_whole;
+use store::moves::copy_keys;
+use store::search::highest_empty;
 
-// A call turned down leaves the state as it was.
-fn refuse(pm: EvcPm, why: Refusal) -> PmResult
-    ensures { λ r. ⌜ r ≡ refused why pm ⌝ }
+// Whether the put marks: it flushes, or its picture is of layer 0.
+fn marks_anew(call: PutCall) -> bool
+    ensures { λ r. ⌜ r ≡ marksAnew call ⌝ }
 {
-    PmResult {
-        answer: Answer::Refused(why),
-        pm,
-    }
+    call.is_idr | (call.temporal_id == 0)
 }
 
-// The leased picture's list numbers: the first `n` are the forward list's, the rest are kept.
-pub fn list_numbers(pic: EvcPic, n: u8, refp: [EvcRefP; REFP_PLACES]) -> [u32; MAX_NUM_REF_PICS]
-    requires { ⌜ n ≤ 21 ⌝ }
-    ensures { λ r. ⌜ r ≡ listed n refp pic ⌝ }
-{
-    let mut list_poc = pic.list_poc;
-    let end = n as usize;
-    let mut i: usize = 0;
-    while i < end {
-        let e = refp[i];
-        list_poc[i] = e.poc;
-        i = i + 1;
-    }
-    list_poc
-}
-
-// IDR flushes; otherwise layer 0 marks.
-fn remark(pm: EvcPm, call: PutCall) -> EvcPm
-    ensures { λ r. ⌜ r ≡ remarked call pm ⌝ }
+// IDR flushes, otherwise layer 0 marks. Gives how many are marked then.
+fn remark(keys: &[u64], next: &mut [u64], call: PutCall) -> u8
+    requires { ⌜ (length (now keys) ≡ slots) × (length (now next) ≡ slots) × (marksAnew call ≡ true) ⌝ }
+    ensures { λ r. ⌜ Remarked call (now (keys .entry)) (now (next .exit)) r ⌝ }
 {
     if call.is_idr {
-        return picman_flush_pb(pm);
+        picman_flush_pb(keys, next);
+        return 0;
     }
-    if call.temporal_id == 0 {
-        return pic_marking_no_rpl(pm, call.ref_pic_gap_length);
-    }
-    pm
+    pic_marking_no_rpl(keys, call.ref_pic_gap_length, next)
 }
 
-// The leased picture goes to slot `pos`, with its number, layer, flags and list numbers.
+// A put of no picture only marks, and the lease stays.
+fn put_nothing(keys: &mut [u64], next: &mut [u64], rest: Rest, call: PutCall) -> Called
+    requires { ⌜ (length (now keys) ≡ slots) × (length (now next) ≡ slots) ⌝ }
+    ensures { λ r. ⌜ ((rows : List ℕ) → length rows ≡ rowsLength
+        → Comes r (now (keys .exit)) rows (listsIn rows) (onlyMarked call (stands (now (keys .entry)) rows rest))) ⌝ }
+{
+    if !marks_anew(call) {
+        return Called {
+            answer: Answer::Done,
+            rest,
+        };
+    }
+    let mut after = rest;
+    after.cur_num_ref_pics = remark(keys, next, call);
+    copy_keys(next, keys);
+    Called {
+        answer: Answer::Done,
+        rest: after,
+    }
+}
+
+// Where the picture goes: a reference to the slot of the reference count, any other to the highest empty slot. 27 where that slot is taken.
+fn place_for(keys: &[u64], count: u8, ref_pic: bool) -> usize
+    requires { ⌜ (length (now keys) ≡ slots) × (count < slots) ⌝ }
+    ensures { λ r. ⌜ r ≡ keyPlace «ref_pic» count (now (keys .entry)) ⌝ }
+{
+    if !ref_pic {
+        return highest_empty(keys);
+    }
+    let pos = count as usize;
+    if is_present(keys[pos]) {
+        return SLOTS;
+    }
+    pos
+}
+
+// The leased picture goes to slot `pos`, with its number, layer and flags; the first of its list numbers are the forward list's.
 fn picman_set_pic_to_pb(
-    pm: EvcPm,
-    list_poc: [u32; MAX_NUM_REF_PICS],
+    keys: &mut [u64],
+    rows: &mut [u32],
+    rest: Rest,
     call: PutCall,
     pos: usize,
-) -> EvcPm
-    requires { ⌜ (pos < 27) × (pm .«cur_pb_size» < 27) × (pm .«cur_num_ref_pics» < 27) ⌝ }
-    ensures { λ r. ⌜ r ≡ placedAt pos call «list_poc» pm ⌝ }
+) -> Called
+    requires { ⌜ Sized (now keys) (now rows) × PlaceRoom (now keys) rest pos ⌝ }
+    ensures { λ r. ⌜ Placed r (now (keys .entry)) (now (rows .entry)) rest call pos (now (keys .exit)) (now (rows .exit)) ⌝ }
 {
-    let pic = EvcPic {
-        poc: call.poc,
-        is_ref: call.ref_pic,
-        need_for_out: call.need_for_output,
-        temporal_id: call.temporal_id,
-        list_poc,
-    };
-    let slot = Slot {
-        present: true,
-        buf: pm.pic_lease.buf,
-        pic,
-    };
-    let lease = empty_slot();
-    let mut next = pm;
-    next.pic[pos] = slot;
-    next.pic_lease = lease;
-    next.cur_pb_size = next.cur_pb_size + 1;
-    next.cur_num_ref_pics = next.cur_num_ref_pics + call.ref_pic as u8;
-    next
+    let lease = rest.lease;
+    let buf = buffer_of(lease);
+    copy_row(rows, NUMBER_ROW, buf, rest.num_refp_0 as usize);
+    keys[pos] = key_of(
+        call.poc,
+        call.temporal_id,
+        buf,
+        call.need_for_output,
+        call.ref_pic,
+    );
+    let mut after = rest;
+    after.lease = 0;
+    after.cur_pb_size = after.cur_pb_size + 1;
+    after.cur_num_ref_pics = after.cur_num_ref_pics + call.ref_pic as u8;
+    Called {
+        answer: Answer::Picture(buffer_byte(lease), call.poc),
+        rest: after,
+    }
 }
 
-// On a whole state, with the leased picture's list numbers. A refusal leaves the marks as they were.
-pub fn put_whole(pm: EvcPm, list_poc: [u32; MAX_NUM_REF_PICS], call: PutCall) -> PmResult
-    requires { ⌜ whole pm ≡ true ⌝ }
-    ensures { λ r. ⌜ r ≡ putListed pm «list_poc» call ⌝ }
+// The second part of a put, for any way of marking: `next` and `count` are the slots marked anew, and only now do they take the keys' place.
+pub fn place_marked(
+    keys: &mut [u64],
+    rows: &mut [u32],
+    next: &[u64],
+    rest: Rest,
+    count: u8,
+    call: PutCall,
+) -> Called
+    requires { ⌜ Sized (now keys) (now rows) × (length (now next) ≡ slots) × (whole (stands (now next) (now rows) (withRefs rest count)) ≡ true)
+        × (keyPresent (rest .lease) ≡ true) ⌝ }
+    ensures { λ r.
+        let before = stands (now (keys .entry)) (now (rows .entry)) rest in
+        let marked = stands (now (next .entry)) (now (rows .entry)) (withRefs rest count) in
+        ⌜ Calls r (now (keys .entry)) (now (rows .entry)) rest (now (keys .exit)) (now (rows .exit)) (place before marked (listsIn (now (rows .entry))) call) ⌝ }
+{
+    let pos = place_for(next, count, call.ref_pic);
+    if SLOTS <= pos {
+        return refuse(rest, Refusal::SlotTaken);
+    }
+    copy_keys(next, keys);
+    let mut marked = rest;
+    marked.cur_num_ref_pics = count;
+    picman_set_pic_to_pb(keys, rows, marked, call, pos)
+}
+
+// The same where nothing was marked anew.
+fn place_unmarked(keys: &mut [u64], rows: &mut [u32], rest: Rest, call: PutCall) -> Called
+    requires { ⌜ Sized (now keys) (now rows) × (whole (stands (now keys) (now rows) rest) ≡ true) × (keyPresent (rest .lease) ≡ true) ⌝ }
+    ensures { λ r.
+        let before = stands (now (keys .entry)) (now (rows .entry)) rest in
+        ⌜ Calls r (now (keys .entry)) (now (rows .entry)) rest (now (keys .exit)) (now (rows .exit)) (place before before (listsIn (now (rows .entry))) call) ⌝ }
+{
+    let pos = place_for(keys, rest.cur_num_ref_pics, call.ref_pic);
+    if SLOTS <= pos {
+        return refuse(rest, Refusal::SlotTaken);
+    }
+    picman_set_pic_to_pb(keys, rows, rest, call, pos)
+}
+
+// On a whole state.
+pub fn put(
+    keys: &mut [u64],
+    rows: &mut [u32],
+    next: &mut [u64],
+    rest: Rest,
+    call: PutCall,
+) -> Called
+    requires { ⌜ Sized (now keys) (now rows) × (length (now next) ≡ slots) × (whole (stands (now keys) (now rows) rest) ≡ true) ⌝ }
+    ensures { λ r.
+        let before = stands (now (keys .entry)) (now (rows .entry)) rest in
+        ⌜ Calls r (now (keys .entry)) (now (rows .entry)) rest (now (keys .exit)) (now (rows .exit)) (putWhole before (listsIn (now (rows .entry))) call) ⌝ }
 {
     if !call.has_pic {
-        let only_marked = remark(pm, call);
-        return PmResult {
-            answer: Answer::Done,
-            pm: only_marked,
-        };
+        return put_nothing(keys, next, rest, call);
     }
     if MAX_POC < call.poc {
-        return refuse(pm, Refusal::NumberTooHigh);
+        return refuse(rest, Refusal::NumberTooHigh);
     }
-    if !pm.pic_lease.present {
-        return refuse(pm, Refusal::NoLease);
+    if !is_present(rest.lease) {
+        return refuse(rest, Refusal::NoLease);
     }
-    let marked = remark(pm, call);
-    let pic = marked.pic;
-    if !call.ref_pic {
-        let pos = highest_empty_slot(pic);
-        let placed = picman_set_pic_to_pb(marked, list_poc, call, pos);
-        return PmResult {
-            answer: Answer::Picture(pm.pic_lease.buf, call.poc),
-            pm: placed,
-        };
+    if !marks_anew(call) {
+        return place_unmarked(keys, rows, rest, call);
     }
-    let pos = marked.cur_num_ref_pics as usize;
-    let there = pic[pos];
-    if there.present {
-        return refuse(pm, Refusal::SlotTaken);
-    }
-    let stored = picman_set_pic_to_pb(marked, list_poc, call, pos);
-    PmResult {
-        answer: Answer::Picture(pm.pic_lease.buf, call.poc),
-        pm: stored,
-    }
-}
-
-pub fn evc_picman_put_pic(pm: EvcPm, refp: [EvcRefP; REFP_PLACES], call: PutCall) -> PmResult
-    ensures { λ r. ⌜ r ≡ put pm refp call ⌝ }
-{
-    if !is_whole(pm) {
-        return refuse(pm, Refusal::StateNotWhole);
-    }
-    let lease = pm.pic_lease;
-    let pic = lease.pic;
-    let list_poc = list_numbers(pic, pm.num_refp_0, refp);
-    put_whole(pm, list_poc, call)
+    let count = remark(keys, next, call);
+    place_marked(keys, rows, next, rest, count, call)
 }

@@ -13,7 +13,7 @@ use lib.Ieee.Digits.{back}
 use lib.Ieee.Fits.{mul-fits}
 use borrow.Author.Tests.{lt-ltb}
 use Rattle.poc.specs.Domain.{OfLayer, signedOffset}
-use Rattle.poc.specs.Seek.{twice}
+use Rattle.poc.proofs.Seek.{twice}
 use Rattle.poc.proofs.Float.{Value, Held, mul-value, div-value, add-value, sub-value, of-value, negative-cast}
 
 -- 2.0 and 1.0

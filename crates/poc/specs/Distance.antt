@@ -11,7 +11,7 @@ use Rattle.seq.specs.Lists.{count, select, Distinct, Once, Rising}
 use Rattle.def.specs.declared.EvcPoc.{EvcPoc}
 use Rattle.poc.specs.declared.PocAnswer.{PocAnswer}
 use Rattle.poc.specs.declared.PocAnswer.the-variants.{Derived, Refused}
-use Rattle.poc.specs.PictureNumber.{derive, number}
+use Rattle.poc.specs.PictureNumber.{derive, number, maxLog2}
 
 -- One derivation that is asked for: its L, so that the length is 2^L, and its layer. Any bytes.
 pub record Call : Type 0 where
@@ -59,17 +59,37 @@ layerOf s = s .call .layer
 abbrev pub offsetAfter : Step → ℤ
 offsetAfter s = s .after .«prev_doc_offset» .0
 
--- The hypotheses: the first call is accepted, with length 2^L, layer 0 and number p; the later accepted ones have that length
--- and layers from 1 to L that never fall, each layer t at most 2^(t-1) times.
-pub record SubGroup (L p : ℕ) (r : EvcPoc) (first : Call) (later : List Call) : Type 0 where
-  pub short : L ≤ 15
+-- The later accepted calls of a sub-group: they have length 2^L and layers from 1 to L that never fall, each layer t at most 2^(t-1) times.
+pub record LaterCalls (L : ℕ) (steps : List Step) : Type 0 where
+  pub same-length : (s : Step) → List·Memᴰ s steps → s .call .log2 ≡ L
+  pub layers : (s : Step) → List·Memᴰ s steps → (1 ≤ layerOf s) × (layerOf s ≤ L)
+  pub never-fall : Rising (map layerOf steps)
+  pub at-most : (t : ℕ) → count (eqb t) (map layerOf steps) ≤ 2 ^ (t - 1)
+
+-- The record stands right after a picture of layer 0 with number p: previous is p and the offset 0. The number that it holds is not read.
+pub record AfterKey (p : ℕ) (r : EvcPoc) : Type 0 where
+  pub previous : r .«prev_poc_val» ≡ p
+  pub offset : r .«prev_doc_offset» .0 ≡ pos 0
+
+-- The first accepted call of the list has length 2^L, layer 0 and number p, and the later accepted ones are as above.
+-- Calls turned down may stand anywhere, in front of it too.
+pub record SubGroup (L p : ℕ) (r : EvcPoc) (calls : List Call) : Type 0 where
+  pub short : L ≤ maxLog2
+  pub key : Step
+  pub later : List Step
+  pub are : accepted r calls ≡ key ∷ later
+  pub key-length : key .call .log2 ≡ L
+  pub key-layer : layerOf key ≡ 0
+  pub key-number : numberOf key ≡ pos p
+  pub rest : LaterCalls L later
+
+-- The same where the list's first call is the accepted one of layer 0: the demand's own words.
+pub record FirstIsKey (L p : ℕ) (r : EvcPoc) (first : Call) (later : List Call) : Type 0 where
+  pub short : L ≤ maxLog2
   pub first-length : first .log2 ≡ L
   pub first-layer : first .layer ≡ 0
   pub first-number : step r first .answer ≡ Derived (record { 0 = pos p })
-  pub same-length : (s : Step) → List·Memᴰ s (accepted (step r first .after) later) → s .call .log2 ≡ L
-  pub layers : (s : Step) → List·Memᴰ s (accepted (step r first .after) later) → (1 ≤ layerOf s) × (layerOf s ≤ L)
-  pub never-fall : Rising (map layerOf (accepted (step r first .after) later))
-  pub at-most : (t : ℕ) → count (eqb t) (map layerOf (accepted (step r first .after) later)) ≤ 2 ^ (t - 1)
+  pub rest : LaterCalls L (accepted (step r first .after) later)
 
 -- n lies strictly between p - 2^L and p: it is p less a distance from 1 to 2^L - 1.
 pub record Between (L p : ℕ) (n : ℤ) : Type 0 where
@@ -101,8 +121,17 @@ pub record Apart (L p : ℕ) (steps : List Step) : Type 0 where
   pub full-run : length steps + 1 ≡ 2 ^ L → (n : ℤ) → Between L p n → Once n (map numberOf steps)
   pub comes-from : (n : ℤ) → Between L p n → ComesFrom L p n steps
 
--- Demand 3.
+-- Demand 3, on a record: derivations on one that stands right after a picture of layer 0.
+abbrev pub DistanceFrom : Type 0
+DistanceFrom =
+    (L p : ℕ) (r : EvcPoc) (calls : List Call) → AfterKey p r → LaterCalls L (accepted r calls) → Apart L p (accepted r calls)
+
+-- Demand 3, on a list of derivations whose first accepted one is of layer 0.
 abbrev pub DistanceRule : Type 0
-DistanceRule =
-    (L p : ℕ) (r : EvcPoc) (first : Call) (later : List Call) → SubGroup L p r first later
+DistanceRule = (L p : ℕ) (r : EvcPoc) (calls : List Call) (g : SubGroup L p r calls) → Apart L p (g .later)
+
+-- Demand 3 in its own words, where that one comes first.
+abbrev pub DistanceFirst : Type 0
+DistanceFirst =
+    (L p : ℕ) (r : EvcPoc) (first : Call) (later : List Call) → FirstIsKey L p r first later
     → Apart L p (accepted (step r first .after) later)

@@ -3,12 +3,6 @@ pub mod Domain
 pub mod Standard
 pub mod Number
 pub mod Distance
-pub mod Seek
-pub mod Offset
-pub mod Differences
-pub mod Same
-pub mod Gap
-pub mod Accepted
-pub mod Climb
-pub mod Apart
+pub mod FullRun
 pub mod Clip
+pub mod Why

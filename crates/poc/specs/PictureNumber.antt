@@ -9,7 +9,6 @@ use Rattle.def.specs.Binary.{floorLog2}
 use Rattle.def.specs.declared.EvcPoc.{EvcPoc}
 use Rattle.def.specs.declared.Refusal.{Refusal}
 use Rattle.def.specs.declared.Refusal.the-variants.{BadLayer, BadRecord, NumberTooHigh}
-use Rattle.poc.specs.declared.PocAnswer.{PocAnswer}
 use Rattle.poc.specs.declared.PocAnswer.the-variants.{Derived, Refused}
 use Rattle.poc.specs.declared.Derivation.{Derivation}
 

@@ -60,17 +60,17 @@ fn expected_tid(doc_offset: u32) -> u8
     (32 - u32::leading_zeros(doc_offset)) as u8
 }
 
-// The first offset of layer `tid` from `doc_offset` on, in the order of decoding, which wraps.
+// The first offset of layer `tid` from `doc_offset` on, in the order of decoding, which wraps. A layer's offsets are
+// those from 2^(tid-1) to 2^tid - 1, so it is `doc_offset` or else the layer's first, whatever the length.
 fn doc_offset_from(log2_sub_gop_length: u8, tid: u8, doc_offset: DocOffset) -> DocOffset
     requires { ⌜ Searched «log2_sub_gop_length» tid («doc_offset» .0) ⌝ }
     ensures { λ r. ⌜ r .0 ≡ pos (offsetFrom «log2_sub_gop_length» tid (offsetOf («doc_offset» .0))) ⌝ }
 {
-    let sub_gop_length = 1u32 << log2_sub_gop_length;
-    let mut d = doc_offset.0 as u32;
-    while tid != expected_tid(d) {
-        d = (d + 1) % sub_gop_length;
+    if tid == expected_tid(doc_offset.0 as u32) {
+        return doc_offset;
     }
-    DocOffset(d as i32)
+    let first = 1u32 << (tid - 1);
+    DocOffset(first as i32)
 }
 
 // What is added to the previous number, for an offset of layer `tid`.

@@ -1,5 +1,8 @@
-pub mod Insertion
-pub mod Walk
-pub mod OneList
-pub mod Deciding
-pub mod Filling
+pub mod Entries
+pub mod Entering
+pub mod Both
+pub mod Settling
+pub mod Coming
+pub mod Written
+pub mod ListLaws
+pub mod CopyLaws

@@ -93,3 +93,16 @@ pub map-highest : {A B : Type 0} (f : A → B) (p : B → Bool) (xs : List A) �
 unfolding highest
 map-highest f p [] = refl
 map-highest f p (x ∷ xs) = rw (map-any f p xs, map-highest f p xs)
+
+pub map-move : {A B : Type 0} (f : A → B) (d : A) (e : B) (i j : ℕ) (xs : List A) → i < length xs → map f (moveTo d i j xs) ≡ moveTo e i j (map f xs)
+unfolding moveTo
+map-move f d e i j xs h =
+    rw (
+      map-append f (take i xs) (slice (suc i) (suc j) xs ++ (getD xs i d ∷ drop (suc j) xs)),
+      map-append f (slice (suc i) (suc j) xs) (getD xs i d ∷ drop (suc j) xs),
+      map-take f i xs,
+      map-drop f (suc i) (take (suc j) xs),
+      map-take f (suc j) xs,
+      map-drop f (suc j) xs,
+      map-at f xs i d e h,
+    )

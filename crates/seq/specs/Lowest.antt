@@ -4,12 +4,14 @@ use mathlib.Core.Path.{_≡_, refl, sym, ap, _∙_}
 use mathlib.Core.Bool.{Bool, true, false, cond, _||_}
 use mathlib.Core.Bool as Bool
 use mathlib.Core.List.{List, [], _∷_}
+use mathlib.Core.Logic.{_⊎_, inl, inr}
 use Prim.Native.Nat.{ℕ, zero, suc, _+_, _-_, _<_, _≤_}
 use native.Mathlib.Nat.{le-of-suc-le-suc, not-suc-le-zero}
 use native.Mathlib.Omega.{arith}
 use lib.ListN.{length, drop, getD, drop-of-length-le}
 use lib.Seq.{drop-cons}
 use Rattle.seq.specs.Lists.{any, lowest, highest}
+use Rattle.seq.specs.Numbers.{lt-or-ge}
 use Rattle.seq.specs.Walks.{drop-step}
 
 module _ {A : Type 0} (d : A) (p : A → Bool) where
@@ -119,3 +121,37 @@ module _ {A : Type 0} (d : A) (p : A → Bool) where
           → Goal (cond b (suc (highest p xs)) 0)
       pick true t below = (let h = below t .0 in omega arith, below t .1)
       pick false t below = (omega arith, sym (Bool.or-false (p x)) ∙ ap (λ (b : Bool). p x || b) (sym t) ∙ e)
+
+-- some element passes exactly where the lowest place is one of the list
+module _ {A : Type 0} (p : A → Bool) where
+  pub found-any : (xs : List A) → lowest p xs < length xs → any p xs ≡ true
+  unfolding lowest any
+  found-any [] h = absurd (not-suc-le-zero h)
+  found-any (x ∷ xs) h = pick (p x) (found-any xs) h
+    where
+      pick : (b : Bool) → (lowest p xs < length xs → any p xs ≡ true) → cond b 0 (suc (lowest p xs)) < suc (length xs) → (b || any p xs) ≡ true
+      pick true below h = refl
+      pick false below h = below (le-of-suc-le-suc h)
+
+  none-at-all : (xs : List A) → length xs ≤ lowest p xs → any p xs ≡ false
+  unfolding lowest any
+  none-at-all [] h = refl
+  none-at-all (x ∷ xs) h = pick (p x) (none-at-all xs) h
+    where
+      pick : (b : Bool) → (length xs ≤ lowest p xs → any p xs ≡ false) → suc (length xs) ≤ cond b 0 (suc (lowest p xs)) → (b || any p xs) ≡ false
+      pick true below h = absurd (not-suc-le-zero h)
+      pick false below h = below (le-of-suc-le-suc h)
+
+  pub any-found : (xs : List A) → any p xs ≡ true → lowest p xs < length xs
+  any-found xs e = by (lt-or-ge (lowest p xs) (length xs))
+    where
+      by : (lowest p xs < length xs) ⊎ (length xs ≤ lowest p xs) → lowest p xs < length xs
+      by (inl h) = h
+      by (inr h) = absurd (Bool.false≢true (sym (none-at-all xs h) ∙ e))
+
+  pub none-found : (xs : List A) → any p xs ≡ false → length xs ≤ lowest p xs
+  none-found xs e = by (lt-or-ge (lowest p xs) (length xs))
+    where
+      by : (lowest p xs < length xs) ⊎ (length xs ≤ lowest p xs) → length xs ≤ lowest p xs
+      by (inl h) = absurd (Bool.false≢true (sym e ∙ found-any xs h))
+      by (inr h) = h

@@ -38,3 +38,16 @@ pub front-step : {A B : Type 0} (f : A → B) (d : A) (e : B) (xs : List A) (ys 
     → set (map f (take i xs) ++ drop i ys) i (f (getD xs i d)) ≡ map f (take (i + 1) xs) ++ drop (i + 1) ys
 front-step f d e xs ys i h k =
     rw (add-one i, drop-cons ys i e k, set-at (map f (take i xs)) (getD ys i e) (drop (suc i) ys) (f (getD xs i d)) i (length-map (take i xs) f ∙ length-take-le i xs (omega arith)), take-suc xs i d h, map-append, append-snoc)
+
+-- tests that agree on each element in its place select the same
+pub select-same : {A : Type 0} (p q : ℕ → A → Bool) (d : A) (i : ℕ) (xs : List A)
+    → ((j : ℕ) → j < length xs → p (i + j) (getD xs j d) ≡ q (i + j) (getD xs j d)) → selectAt p i xs ≡ selectAt q i xs
+unfolding selectAt
+select-same p q d i [] h = refl
+select-same {A} p q d i (x ∷ xs) h = rw (here, select-same p q d (suc i) xs there)
+  where
+    here : p i x ≡ q i x
+    here = let z : i + 0 ≡ i = omega arith in rw z at (h 0 (omega arith))
+
+    there : (j : ℕ) → j < length xs → p (suc i + j) (getD xs j d) ≡ q (suc i + j) (getD xs j d)
+    there j l = let z : i + suc j ≡ suc i + j = omega arith in rw z at (h (suc j) (omega arith))

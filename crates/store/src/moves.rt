@@ -1,40 +1,45 @@
-// Moves within the slots.
+// Moves within the keys of the slots.
 ghost use mathlib.Core.Path.{_≡_};
-ghost use Rattle.store.specs.Moves.{movePic, removePic};
-use def::MAX_PB_SIZE;
-use def::Slot;
+ghost use Prim.Native.Nat.{_<_};
+ghost use lib.ListN.{length};
+ghost use Rattle.seq.specs.Lists.{moveTo, removeAt};
+ghost use Rattle.def.specs.State.{slots};
+ghost use Rattle.store.specs.Search.{lastSlot};
+use keys::SLOTS;
 
-// The slot at `from` goes to `to`, and those between slide down one. Places that are not in the store or not in this order move nothing.
-pub fn picman_move_pic(pic: [Slot; MAX_PB_SIZE], from: usize, to: usize) -> [Slot; MAX_PB_SIZE]
-    ensures { λ r. ⌜ r ≡ movePic pic from to ⌝ }
+// The last slot.
+pub const LAST: usize = SLOTS - 1;
+
+// The key at `pos` goes to the last slot, and those above slide down one (the Rust's picman_move_pic).
+pub fn move_last(keys: &mut [u64], pos: usize)
+    requires { ⌜ (length (now keys) ≡ slots) × (pos < slots) ⌝ }
+    ensures { λ _. ⌜ now (keys .exit) ≡ moveTo 0 pos lastSlot (now (keys .entry)) ⌝ }
 {
-    let mut p = pic;
-    if to < from {
-        return p;
-    }
-    if MAX_PB_SIZE <= to {
-        return p;
-    }
-    let moved = p[from];
-    let mut i = from;
-    while i < to {
-        let next = p[i + 1];
-        p[i] = next;
+    let moved = keys[pos];
+    let mut i = pos;
+    while i < LAST {
+        keys[i] = keys[i + 1];
         i = i + 1;
     }
-    p[to] = moved;
-    p
+    keys[LAST] = moved;
 }
 
-// The slot at `pos` is taken out: those above slide down one, and the last slot empties. A place that is not in the store removes nothing.
-pub fn picman_remove_pic_from_pb(pic: [Slot; MAX_PB_SIZE], pos: usize) -> [Slot; MAX_PB_SIZE]
-    ensures { λ r. ⌜ r ≡ removePic pic pos ⌝ }
+// The key at `pos` is taken out: those above slide down one, and the last slot empties (picman_remove_pic_from_pb).
+pub fn remove_key(keys: &mut [u64], pos: usize)
+    requires { ⌜ (length (now keys) ≡ slots) × (pos < slots) ⌝ }
+    ensures { λ _. ⌜ now (keys .exit) ≡ removeAt 0 pos (now (keys .entry)) ⌝ }
 {
-    let mut p = pic;
-    if MAX_PB_SIZE <= pos {
-        return p;
+    keys[pos] = 0;
+    move_last(keys, pos);
+}
+
+pub fn copy_keys(from: &[u64], to: &mut [u64])
+    requires { ⌜ (length (now from) ≡ slots) × (length (now to) ≡ slots) ⌝ }
+    ensures { λ _. ⌜ now (to .exit) ≡ now (from .entry) ⌝ }
+{
+    let mut i: usize = 0;
+    while i < SLOTS {
+        to[i] = from[i];
+        i = i + 1;
     }
-    let empty = def::empty_slot();
-    p[pos] = empty;
-    picman_move_pic(p, pos, MAX_PB_SIZE - 1)
 }

@@ -1,102 +1,82 @@
-// How many slots are occupied or marked, and where the lowest idle slot, the highest empty slot and the smallest free buffer number are.
+// Searches and counts over the keys of the slots.
 ghost use mathlib.Core.Path.{_≡_};
 ghost use mathlib.Core.Bool.{not};
-ghost use Prim.Native.Nat.{_<_};
-ghost use Rattle.seq.specs.Lists.{count, lowest, highest, smallestNotIn};
-ghost use Rattle.def.specs.State.{isPresent, isMarked, isIdle, isEmpty};
-ghost use Rattle.store.specs.Search.{foundAt, buffersOf, Held};
-use def::MAX_PB_SIZE;
-use def::Slot;
+ghost use lib.ListN.{length};
+ghost use Rattle.seq.specs.Lists.{count, lowest, highest};
+ghost use Rattle.def.specs.State.{slots};
+ghost use Rattle.keys.specs.Keys.{keyIdle, keyEmpty, keyMarked, keyBuffers};
+ghost use Rattle.store.specs.Search.{buffers, keyFree, Held};
+use keys::SLOTS;
+use keys::key::buffer_of;
+use keys::key::is_idle;
+use keys::key::is_marked;
+use keys::key::is_present;
 
-pub struct SlotCounts {
-    pub occupied: u8,
-    pub marked: u8,
-}
-
-pub fn slot_counts(pic: [Slot; MAX_PB_SIZE]) -> SlotCounts
-    ensures { λ r. ⌜ (r .occupied ≡ count isPresent pic) × (r .marked ≡ count isMarked pic) ⌝ }
-{
-    let mut occupied: u8 = 0;
-    let mut marked: u8 = 0;
-    let mut i: usize = 0;
-    while i < MAX_PB_SIZE {
-        let s = pic[i];
-        occupied = occupied + s.present as u8;
-        marked = marked + (s.present & s.pic.is_ref) as u8;
-        i = i + 1;
-    }
-    SlotCounts { occupied, marked }
-}
-
-pub fn picman_get_num_allocated_pics(pic: [Slot; MAX_PB_SIZE]) -> u8
-    ensures { λ r. ⌜ r ≡ count isPresent pic ⌝ }
-{
-    let counts = slot_counts(pic);
-    counts.occupied
-}
-
-// What a search for a slot finds.
-pub enum Found {
-    At(usize),
-    Nothing,
-}
-
-// The lowest slot whose picture is neither marked nor wanted for output.
-pub fn picman_get_empty_pic_from_list(pic: [Slot; MAX_PB_SIZE]) -> Found
-    ensures { λ r. ⌜ r ≡ foundAt (lowest isIdle pic) ⌝ }
+// The lowest slot whose picture is neither marked nor wanted for output; 27 where none is (picman_get_empty_pic_from_list).
+pub fn lowest_idle(keys: &[u64]) -> usize
+    requires { ⌜ length (now keys) ≡ slots ⌝ }
+    ensures { λ r. ⌜ r ≡ lowest keyIdle (now (keys .entry)) ⌝ }
 {
     let mut i: usize = 0;
-    while i < MAX_PB_SIZE {
-        let s = pic[i];
-        if s.present & (!s.pic.is_ref & !s.pic.need_for_out) {
-            return Found::At(i);
+    while i < SLOTS {
+        if is_idle(keys[i]) {
+            return i;
         }
         i = i + 1;
     }
-    Found::Nothing
+    i
 }
 
 // The highest empty slot; 0 where none is empty.
-pub fn highest_empty_slot(pic: [Slot; MAX_PB_SIZE]) -> usize
-    ensures { λ r. ⌜ r ≡ highest isEmpty pic ⌝ }
+pub fn highest_empty(keys: &[u64]) -> usize
+    requires { ⌜ length (now keys) ≡ slots ⌝ }
+    ensures { λ r. ⌜ r ≡ highest keyEmpty (now (keys .entry)) ⌝ }
 {
-    let mut i: usize = MAX_PB_SIZE;
+    let mut i: usize = SLOTS;
     while 0 < i {
         i = i - 1;
-        let s = pic[i];
-        if !s.present {
+        if !is_present(keys[i]) {
             return i;
         }
     }
     0
 }
 
-// As many buffer numbers as a byte can name.
-pub const BUFFERS: usize = 256;
-
-pub fn buffer_index(s: Slot) -> usize
-    ensures { λ r. ⌜ (r ≡ s .buf) × (r < 256) ⌝ }
+pub fn count_marked(keys: &[u64]) -> u8
+    requires { ⌜ length (now keys) ≡ slots ⌝ }
+    ensures { λ r. ⌜ r ≡ count keyMarked (now (keys .entry)) ⌝ }
 {
-    s.buf as usize
+    let mut marked: u8 = 0;
+    let mut i: usize = 0;
+    while i < SLOTS {
+        marked = marked + is_marked(keys[i]) as u8;
+        i = i + 1;
+    }
+    marked
 }
 
+// As many buffer numbers as a key can name.
+const BUFFERS: usize = 32;
+
 // Of each buffer number, whether a slot holds it.
-fn held_buffers(pic: [Slot; MAX_PB_SIZE]) -> [bool; BUFFERS]
-    ensures { λ r. ⌜ Held (buffersOf pic) r ⌝ }
+fn held_buffers(keys: &[u64]) -> [bool; BUFFERS]
+    requires { ⌜ length (now keys) ≡ slots ⌝ }
+    ensures { λ r. ⌜ Held (keyBuffers (now (keys .entry))) r ⌝ }
 {
     let mut held = [false; BUFFERS];
     let mut i: usize = 0;
-    while i < MAX_PB_SIZE {
-        let s = pic[i];
-        let b = buffer_index(s);
-        held[b] = held[b] | s.present;
+    while i < SLOTS {
+        let k = keys[i];
+        let b = buffer_of(k);
+        held[b] = held[b] | is_present(k);
         i = i + 1;
     }
     held
 }
 
-fn lowest_free(held: [bool; BUFFERS]) -> usize
-    ensures { λ r. ⌜ r ≡ lowest not held ⌝ }
+fn lowest_free(held: &[bool; BUFFERS]) -> usize
+    requires { ⌜ length (now held) ≡ buffers ⌝ }
+    ensures { λ r. ⌜ r ≡ lowest not (now (held .entry)) ⌝ }
 {
     let mut i: usize = 0;
     while i < BUFFERS {
@@ -109,9 +89,10 @@ fn lowest_free(held: [bool; BUFFERS]) -> usize
 }
 
 // The smallest buffer number that no slot holds.
-pub fn free_buffer(pic: [Slot; MAX_PB_SIZE]) -> u8
-    ensures { λ r. ⌜ r ≡ smallestNotIn (buffersOf pic) ⌝ }
+pub fn free_buffer(keys: &[u64]) -> usize
+    requires { ⌜ length (now keys) ≡ slots ⌝ }
+    ensures { λ r. ⌜ r ≡ keyFree (now (keys .entry)) ⌝ }
 {
-    let held = held_buffers(pic);
-    lowest_free(held) as u8
+    let held = held_buffers(keys);
+    lowest_free(&held)
 }

@@ -9,8 +9,7 @@ use Rattle.seq.specs.Often.{SameNumbers, same-mem, same-distinct, count-select-
 use Rattle.def.specs.declared.Slot.{Slot}
 use Rattle.def.specs.declared.EvcPm.{EvcPm}
 use Rattle.def.specs.State.{slots, isPresent, bufferOf}
-use Rattle.store.specs.Search.{buffersOf}
-use Rattle.whole.specs.Whole.{heldBuffers}
+use Rattle.whole.specs.Whole.{buffersOf, heldBuffers}
 use Rattle.whole.specs.Laws.{Whole}
 
 -- A slot that holds a picture whose buffer number passes the test.

@@ -7,18 +7,17 @@ use mathlib.Core.List.{List, [], _∷_, List·Memᴰ}
 use Prim.Native.Nat.{ℕ, _+_, _≤_, _<_}
 use native.Mathlib.Omega.{arith}
 use lib.Dec.{leb, ltb, eqb}
-use lib.ListN.{length, getD}
+use lib.ListN.{length, getD, length-map}
 use borrow.Author.Tests.{leb-true, le-leb, ltb-true, lt-ltb, eqb-true, eq-eqb, not-true, not-false}
 use Rattle.seq.specs.Lists.{all, any, count, select, allDiffer, Distinct, smallestNotIn}
-use Rattle.seq.specs.Counts.{count-yes}
+use Rattle.seq.specs.Counts.{count-yes, length-select}
 use Rattle.seq.specs.Distinct.{pigeonhole}
 use Rattle.seq.specs.All.{and-left, and-right, and-both, all-at, all-true, all-holds, any-of-few, count-append, count-le}
 use Rattle.seq.specs.Smallest.{differ-distinct, distinct-differ, smallest-le, smallest}
 use Rattle.def.specs.declared.Slot.{Slot}
 use Rattle.def.specs.declared.EvcPm.{EvcPm}
-use Rattle.def.specs.State.{slots, listPlaces, highestPoc, isPresent, isMarked, isEmpty, newPm}
-use Rattle.store.specs.Search.{buffersOf, buffers-count}
-use Rattle.whole.specs.Whole.{whole, rules, places, heldBuffers, zeroIfEmpty, pocFits}
+use Rattle.def.specs.State.{slots, listPlaces, highestPoc, isPresent, isMarked, isEmpty, bufferOf, newPm}
+use Rattle.whole.specs.Whole.{whole, rules, leases, places, buffersOf, heldBuffers, zeroIfEmpty, pocFits}
 
 -- An all-zero record, but for the flag that says it is there.
 pub record Zero (s : Slot) : Type 0 where
@@ -61,7 +60,7 @@ six true true false d e f h = absurd (Bool.false≢true h)
 six true true true false e f h = absurd (Bool.false≢true h)
 six true true true true false f h = absurd (Bool.false≢true h)
 
-zero-from : (s : Slot) → zeroIfEmpty s ≡ true → s .present ≡ false → Zero s
+pub zero-from : (s : Slot) → zeroIfEmpty s ≡ true → s .present ≡ false → Zero s
 zero-from s e absent =
     let t =
     six (eqb (s .buf) 0) (eqb (s .pic .poc) 0) (not (s .pic .«is_ref»)) (not (s .pic .«need_for_out»)) (eqb (s .pic .«temporal_id») 0)
@@ -134,11 +133,14 @@ new-whole = refl
 
 -- ---- how many pictures there can be
 
--- Slots and lease hold at most 27 pictures, since their buffer numbers differ.
-held-count : (pm : EvcPm) → length (heldBuffers pm) ≡ count isPresent (pm .pic) + count isPresent (pm .«pic_lease» ∷ [])
-held-count pm = buffers-count (places pm) ∙ count-append isPresent (pm .pic) _
+pub buffers-count : (ss : List Slot) → length (buffersOf ss) ≡ count isPresent ss
+buffers-count ss = length-map (select isPresent ss) bufferOf ∙ length-select isPresent ss
 
-pub pictures-at-most : (pm : EvcPm) → Whole pm → count isPresent (pm .pic) + count isPresent (pm .«pic_lease» ∷ []) ≤ slots
+-- Slots and leases hold at most 27 pictures, since their buffer numbers differ.
+held-count : (pm : EvcPm) → length (heldBuffers pm) ≡ count isPresent (pm .pic) + count isPresent (leases pm)
+held-count pm = buffers-count (places pm) ∙ count-append isPresent (pm .pic) (leases pm)
+
+pub pictures-at-most : (pm : EvcPm) → Whole pm → count isPresent (pm .pic) + count isPresent (leases pm) ≤ slots
 pictures-at-most pm w = let h = pigeonhole slots (heldBuffers pm) (w .buffers-differ) (w .buffers-below) in let e = held-count pm in omega arith
 
 -- With a picture leased the slots hold at most 26,

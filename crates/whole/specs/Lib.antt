@@ -1,5 +1,4 @@
 pub mod Whole
 pub mod Laws
-pub mod Walk
-pub mod Seen
 pub mod Holding
+pub mod Tallies

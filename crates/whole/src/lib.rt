@@ -1,93 +1,101 @@
-// Which states are whole.
+// Whether a state keeps the rules that every call relies on. Each entry point asks this first and refuses where it does not.
 ghost use mathlib.Core.Path.{_≡_};
-ghost use lib.Dec.{eqb};
-ghost use Rattle.seq.specs.Lists.{all};
+ghost use mathlib.Core.List.{List};
+ghost use Prim.Native.Nat.{ℕ};
+ghost use lib.ListN.{length};
+ghost use Rattle.def.specs.State.{slots};
+ghost use Rattle.keys.specs.Keys.{stands};
 ghost use Rattle.whole.specs.Whole.{whole};
-ghost use Rattle.whole.specs.Walk.{slotHolds, buffersHold};
-use def::EvcPm;
+ghost use Rattle.whole.specs.Tallies.{Roomy, noTally, tallied, tallyAll};
 use def::MAX_NUM_REF_PICS;
 use def::MAX_PB_SIZE;
-use def::MAX_POC;
-use def::Slot;
-use store::search::BUFFERS;
-use store::search::buffer_index;
-use store::search::slot_counts;
+use keys::Rest;
+use keys::SLOTS;
+use keys::key::is_present;
 
 const MAX_PB: u8 = MAX_PB_SIZE as u8;
 
 const MAX_REFS: u8 = MAX_NUM_REF_PICS as u8;
 
-fn numbers_are_zero(list_poc: [u32; MAX_NUM_REF_PICS]) -> bool
-    ensures { λ r. ⌜ r ≡ all (λ n. eqb n 0) «list_poc» ⌝ }
+// One more than the highest key of a picture whose number is not too high, and than the highest set of buffer numbers, as bits.
+const KEYS_END: u64 = 0x8000_0000_0000;
+
+const BUFFERS_END: u64 = 1 << SLOTS;
+
+// What one pass over the keys gathers. The bits of those without a picture and of those with one; how many have a picture and how many are
+// marked; and of the buffer numbers, as bits, the set and the sum. Set and sum are the same where none comes twice.
+struct Tally {
+    stray: u64,
+    high: u64,
+    occupied: u64,
+    marked: u64,
+    set: u64,
+    sum: u64,
+}
+
+fn tally_key(t: Tally, key: u64) -> Tally
+    requires { ⌜ Roomy t ⌝ }
+    ensures { λ r. ⌜ r ≡ tallied t key ⌝ }
 {
-    let mut ok = true;
+    if !is_present(key) {
+        return Tally {
+            stray: t.stray | key,
+            high: t.high,
+            occupied: t.occupied,
+            marked: t.marked,
+            set: t.set,
+            sum: t.sum,
+        };
+    }
+    let bit = (1u32 << (key / 8 % 32)) as u64;
+    Tally {
+        stray: t.stray,
+        high: t.high | key,
+        occupied: t.occupied + 1,
+        marked: t.marked + key / 2 % 2,
+        set: t.set | bit,
+        sum: t.sum + bit,
+    }
+}
+
+// Three keys a turn: the test of the loop is a good part of its time.
+fn tally_all(keys: &[u64]) -> Tally
+    requires { ⌜ length (now keys) ≡ slots ⌝ }
+    ensures { λ r. ⌜ (r ≡ tallyAll noTally (now (keys .entry))) × Roomy r ⌝ }
+{
+    let mut t = Tally {
+        stray: 0,
+        high: 0,
+        occupied: 0,
+        marked: 0,
+        set: 0,
+        sum: 0,
+    };
     let mut i: usize = 0;
-    while i < MAX_NUM_REF_PICS {
-        ok = ok & (list_poc[i] == 0);
-        i = i + 1;
+    while i < SLOTS {
+        let one = tally_key(t, keys[i]);
+        let two = tally_key(one, keys[i + 1]);
+        t = tally_key(two, keys[i + 2]);
+        i = i + 3;
     }
-    ok
+    t
 }
 
-// An empty slot is all zero; a picture's own number is not too high.
-fn slot_holds(s: Slot) -> bool
-    ensures { λ r. ⌜ r ≡ slotHolds s ⌝ }
+// One pass, over any bits. The lease counts among the buffer numbers and not among the slots.
+pub fn is_whole(keys: &[u64], rest: Rest) -> bool
+    requires { ⌜ length (now keys) ≡ slots ⌝ }
+    ensures { λ r. ⌜ ((rows : List ℕ) → r ≡ whole (stands (now (keys .entry)) rows rest)) ⌝ }
 {
-    if s.present {
-        return s.pic.poc <= MAX_POC;
-    }
-    let pic = s.pic;
-    let list_poc = pic.list_poc;
-    (s.buf == 0)
-        & (pic.poc == 0)
-        & !pic.is_ref
-        & !pic.need_for_out
-        & (pic.temporal_id == 0)
-        & numbers_are_zero(list_poc)
-}
-
-fn slots_hold(pic: [Slot; MAX_PB_SIZE]) -> bool
-    ensures { λ r. ⌜ r ≡ all slotHolds pic ⌝ }
-{
-    let mut ok = true;
-    let mut i: usize = 0;
-    while i < MAX_PB_SIZE {
-        let s = pic[i];
-        let holds = slot_holds(s);
-        ok = ok & holds;
-        i = i + 1;
-    }
-    ok
-}
-
-// The buffer numbers of slots and lease are in range and differ: each is looked up among those seen before it.
-fn buffers_hold(pic: [Slot; MAX_PB_SIZE], lease: Slot) -> bool
-    ensures { λ r. ⌜ r ≡ buffersHold pic lease ⌝ }
-{
-    let mut seen = [false; BUFFERS];
-    let mut ok = true;
-    let mut i: usize = 0;
-    while i < MAX_PB_SIZE {
-        let s = pic[i];
-        let b = buffer_index(s);
-        ok = ok & (!s.present | ((b < MAX_PB_SIZE) & !seen[b]));
-        seen[b] = seen[b] | s.present;
-        i = i + 1;
-    }
-    let b = buffer_index(lease);
-    ok & (!lease.present | ((b < MAX_PB_SIZE) & !seen[b]))
-}
-
-pub fn is_whole(pm: EvcPm) -> bool
-    ensures { λ r. ⌜ r ≡ whole pm ⌝ }
-{
-    let pic = pm.pic;
-    let lease = pm.pic_lease;
-    let counts = slot_counts(pic);
-    let limits = (pm.max_pb_size <= MAX_PB)
-        & (pm.max_num_ref_pics <= MAX_REFS)
-        & (pm.num_refp_0 <= MAX_REFS)
-        & (pm.num_refp_1 <= MAX_REFS);
-    let sizes = (pm.cur_pb_size == counts.occupied) & (pm.cur_num_ref_pics == counts.marked);
-    limits & sizes & slots_hold(pic) & slot_holds(lease) & buffers_hold(pic, lease)
+    let slots = tally_all(keys);
+    let all = tally_key(slots, rest.lease);
+    (rest.max_pb_size <= MAX_PB)
+        & (rest.max_num_ref_pics <= MAX_REFS)
+        & (rest.num_refp_0 <= MAX_REFS)
+        & (rest.num_refp_1 <= MAX_REFS)
+        & (rest.cur_pb_size as u64 == slots.occupied)
+        & (rest.cur_num_ref_pics as u64 == slots.marked)
+        & (all.stray == 0)
+        & (all.high < KEYS_END)
+        & (all.set < BUFFERS_END)
+        & (all.set == all.sum)
 }

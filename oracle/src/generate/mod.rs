@@ -4,4 +4,6 @@ pub mod broken;
 pub mod calls;
 pub mod group;
 pub mod lines;
+pub mod mixes;
+pub mod running;
 pub mod states;

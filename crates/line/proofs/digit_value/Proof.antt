@@ -1,6 +1,6 @@
 -- `line::digit_value` meets its contract: the halves of a digit's character give its value.
 -- Assumes nothing.
-use Rattle.line.specs.HexLaws.{digit-halves}
+use Rattle.line.proofs.HexLaws.{digit-halves}
 use borrow.Author.Needs.{needs}
 use Rattle.line.proofs.digit_value.Statement.{statement}
 use Rattle.line.proofs.digit_value.Tie as tie

@@ -1,7 +1,7 @@
 -- `line::pair_value` meets its contract: a digit's value is below 16, so the pair's fits a byte.
 -- Assumes nothing.
 use native.Mathlib.Omega.{arith}
-use Rattle.line.specs.HexLaws.{digit-fits}
+use Rattle.line.proofs.HexLaws.{digit-fits}
 use borrow.Author.Needs.{needs}
 use Rattle.line.proofs.pair_value.Statement.{statement}
 use Rattle.line.proofs.pair_value.Tie as tie

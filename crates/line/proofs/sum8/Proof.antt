@@ -6,7 +6,7 @@ use mathlib.Core.Path.{_≡_}
 use borrow.Author.Needs.{needs}
 use lib.ListN.{length, drop, drop-of-length-le}
 use Rattle.line.specs.Hex.{sum8}
-use Rattle.line.specs.HexLaws.{sum8-fits, sum8-step}
+use Rattle.line.proofs.HexLaws.{sum8-fits, sum8-step}
 use Rattle.line.proofs.sum8.Statement.{statement}
 use Rattle.line.proofs.sum8.Tie as tie
 

@@ -1,43 +1,39 @@
--- `marking::picman_flush_pb` meets its contract. The loop changes the slots alone, and those from place i on are still to be unmarked. Assumes nothing.
-use mathlib.Core.Path.{_≡_, ap, sym, _∙_, refl}
-use mathlib.Core.List.{List, map, _++_}
-use Prim.Native.Nat.{ℕ, _≤_, _-_, _+_, _<_}
+-- `marking::picman_flush_pb` meets its contract. Assumes nothing.
+use mathlib.Core.Path.{_≡_, refl, sym, ap, _∙_}
+use mathlib.Core.List.{map}
+use Prim.Native.Nat.{_≤_, _-_}
 use native.Mathlib.Omega.{arith}
-use lib.ListN.{length, take, drop, getD, set, length-set, length-map}
 use borrow.Author.Needs.{needs}
-use Rattle.def.specs.declared.EvcPm.{EvcPm}
-use Rattle.def.specs.declared.Slot.{Slot}
-use Rattle.def.specs.State.{noSlot, unmarked, withStore}
-use Rattle.seq.specs.Places.{map-step, map-end}
-use Rattle.marking.specs.Marking.{flush}
+use lib.ListN.{length, take, length-set}
+use lib.Seq.{take-all}
+use Rattle.keys.specs.Keys.{keyUnmarked}
+use Rattle.seq.specs.Commute.{fill-turn}
 use Rattle.marking.proofs.picman_flush_pb.Statement.{statement}
 use Rattle.marking.proofs.picman_flush_pb.Tie as tie
 
--- a state with other slots
-abbrev withSlots : EvcPm → List Slot → EvcPm
-withSlots pm xs = withStore pm xs (pm .«pic_lease») (pm .«cur_pb_size») (pm .«cur_num_ref_pics»)
-
 abbrev Inv-loop : tie.InvT-loop
-Inv-loop q₀ i₀ q i =
-    (i ≤ 27)
-    × (length (q .pic) ≡ 27)
-    × (q ≡ withSlots q₀ (q .pic))
-    × (take i (q .pic) ++ map unmarked (drop i (q .pic)) ≡ map unmarked (q₀ .pic))
+Inv-loop keys next₀ i₀ next i = (i ≤ 27) × (length keys ≡ 27) × (length next ≡ 27) × (take i next ≡ map keyUnmarked (take i keys))
 
 abbrev μ-loop : tie.MeasureT-loop
-μ-loop q₀ i₀ q i = 27 - i
-
-slots-27 : (c : tie.Start Inv-loop μ-loop) → length (c .args .pm .pic) ≡ 27
-slots-27 c = sym (length-map (c .args .pm .pic) _) ∙ c .good .0 .1 .1 .0 .1 .0 .1
+μ-loop keys next₀ i₀ next i = 27 - i
 
 loop-holds : tie.Need-loop-holds Inv-loop μ-loop
-loop-holds c = (search needs, slots-27 c, refl, refl)
+loop-holds c = (omega arith, c .before .before .pre .0, c .before .before .pre .1, refl)
 
-mul-q : tie.Need-mul-q Inv-loop μ-loop
-mul-q c = search needs
+mul-unmarked : tie.Need-mul-unmarked Inv-loop μ-loop
+mul-unmarked c = search needs
 
-way-write-given-q : tie.Need-way-write-given-q Inv-loop μ-loop
-way-write-given-q c = search needs
+shared-slice-read-unmarked : tie.Need-shared-slice-read-unmarked Inv-loop μ-loop
+shared-slice-read-unmarked c = search needs
+
+unmarked-requires : tie.Need-unmarked-requires Inv-loop μ-loop
+unmarked-requires c κs = search needs
+
+mul-next : tie.Need-mul-next Inv-loop μ-loop
+mul-next c = search needs
+
+slice-write-next : tie.Need-slice-write-next Inv-loop μ-loop
+slice-write-next c = search needs
 
 add-i : tie.Need-add-i Inv-loop μ-loop
 add-i c = search needs
@@ -47,21 +43,18 @@ loop-less c = search needs
 
 loop-again : tie.Need-loop-again Inv-loop μ-loop
 loop-again c =
-    let l = c .before .before .loop in
-    let h : length (l .q .pic) ≡ 27 = l .inv .1 in
-    let p = set (l .q .pic) (l .i) (unmarked (getD (l .q .pic) (l .i) noSlot)) in (
-      omega arith,
-      simp length-set h,
-      ap (λ (q : EvcPm). withSlots q p) (l .inv .2),
-      map-step unmarked noSlot (l .q .pic) (l .i) (omega arith) ∙ l .inv .3,
-    )
+    let l = c .before .before .before .loop in
+    let a = c .before .before .before .before .before .before .args in
+    (omega arith, l .inv .1, simp length-set (l .inv .2), rw (c .unmarked .ensures) (fill-turn keyUnmarked 0 (a .keys .now) (l .next) (l .i) (omega arith) (omega arith) (l .inv .3)))
+
+same-length : tie.Need-same-length Inv-loop μ-loop
+same-length c = search needs
 
 returns : tie.Need-returns Inv-loop μ-loop
 returns c =
     let l = c .before .loop in
-    let h : length (l .q .pic) ≡ 27 = l .inv .1 in
-    ap (λ (q : EvcPm). withStore q (q .pic) (q .«pic_lease») (q .«cur_pb_size») 0) (l .inv .2)
-    ∙ ap (λ (xs : List Slot). withStore (c .before .before .args .pm) xs (c .before .before .args .pm .«pic_lease») (c .before .before .args .pm .«cur_pb_size») 0) (sym (map-end unmarked noSlot (l .q .pic) (l .i) (omega arith)) ∙ l .inv .3)
+    let a = c .before .before .before .before .args in
+    sym (take-all (l .i) (l .next) (omega arith)) ∙ l .inv .3 ∙ ap (map keyUnmarked) (take-all (l .i) (a .keys .now) (omega arith))
 
 pub picman-flush-pb-spec : {M : Type 1} → statement M
 picman-flush-pb-spec =
@@ -70,9 +63,13 @@ picman-flush-pb-spec =
     Inv-loop
     μ-loop
     loop-holds
-    mul-q
-    way-write-given-q
+    mul-unmarked
+    shared-slice-read-unmarked
+    unmarked-requires
+    mul-next
+    slice-write-next
     add-i
     loop-less
     loop-again
+    same-length
     returns)

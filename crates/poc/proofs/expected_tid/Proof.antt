@@ -9,7 +9,7 @@ use lib.Count.{leadingZeros, leading-le, leading-length}
 use lib.Pow.{pow-mono}
 use lib.Ieee.{size}
 use lib.Ieee.Digits.{size-lt, size-le}
-use Rattle.poc.specs.Seek.{expected-digits}
+use Rattle.poc.proofs.Seek.{expected-digits}
 use Rattle.poc.proofs.expected_tid.Statement.{statement}
 use Rattle.poc.proofs.expected_tid.Tie as tie
 

@@ -9,7 +9,7 @@ use mir.Syntax.{w32}
 use mir.ValLaws.{toZ-pos}
 use borrow.Author.Tests.{le-ltb}
 use Rattle.poc.specs.PictureNumber.{maxPoc}
-use Rattle.poc.specs.Number.{settled-high, settled-fits}
+use Rattle.poc.proofs.Settled.{settled-high, settled-fits}
 use Rattle.poc.proofs.Words.{shifted, power-le}
 use Rattle.poc.proofs.key_picture.Statement.{statement}
 use Rattle.poc.proofs.key_picture.Tie as tie

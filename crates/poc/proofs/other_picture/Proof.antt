@@ -16,8 +16,9 @@ use borrow.Author.Tests.{eq-eqb, ne-eqb}
 use Rattle.def.specs.declared.EvcPoc.{EvcPoc}
 use Rattle.poc.specs.PictureNumber.{maxPoc, tooHigh, offsetOf, offsetFrom, number, nextOffset, nextPrevious}
 use Rattle.poc.specs.Domain.{Checked, OfLayer, signedOffset}
-use Rattle.poc.specs.Seek.{layer-bounds, offset-reaches}
-use Rattle.poc.specs.Number.{accepted, settled-high, settled-fits, sum-is, sum-low, sum-mag}
+use Rattle.poc.proofs.Offset.{offsetFrom-lands}
+use Rattle.poc.specs.Number.{accepted}
+use Rattle.poc.proofs.Settled.{settled-high, settled-fits, sum-is, sum-low, sum-mag}
 use Rattle.poc.proofs.Words.{shifted, power-le, as-signed}
 use Rattle.poc.proofs.Formula.{stays-below}
 use Rattle.poc.proofs.other_picture.Statement.{statement}
@@ -51,8 +52,8 @@ module _ {L t : ℕ} {r : EvcPoc} (h : Checked L t r) where
 
   found-layer : 1 ≤ t → OfLayer L t (pos (found L t r))
   found-layer low =
-      let b = layer-bounds t _ low (offset-reaches L t (nextOffset L r) low (h .layer) next-below) in
-      record { layer-low = low; layer-high = h .layer; short = h .short; is-offset = refl; offset-low = b .0; offset-high = b .1 }
+      let l = offsetFrom-lands L t low (h .layer) (nextOffset L r) next-below in
+      record { layer-low = low; layer-high = h .layer; short = h .short; is-offset = refl; offset-low = l .low; offset-high = l .high }
 
   -- the new number, where previous is not too high
   module _ (low : 1 ≤ t) (fits : nextPrevious L r ≤ maxPoc) where

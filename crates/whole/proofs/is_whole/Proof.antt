@@ -1,33 +1,28 @@
--- `whole::is_whole` meets its contract: what its parts ensure, put into the walk's law. Assumes nothing.
-use Rattle.whole.specs.Seen.{whole-walk}
+-- `whole::is_whole` meets its contract: the tests of what was gathered are the rules, for any rows. Assumes nothing.
 use borrow.Author.Needs.{needs}
+use Rattle.whole.proofs.KeyRules.{whole-told}
 use Rattle.whole.proofs.is_whole.Statement.{statement}
 use Rattle.whole.proofs.is_whole.Tie as tie
 
-slot-counts-requires : tie.Need-slot-counts-requires
-slot-counts-requires c κs = search needs
+tally-all-requires : tie.Need-tally-all-requires
+tally-all-requires c κs = search needs
 
-slots-hold-requires : tie.Need-slots-hold-requires
-slots-hold-requires c κs = search needs
+tally-key-requires : tie.Need-tally-key-requires
+tally-key-requires c κs = c .tally-all .ensures .1
 
-slot-holds-requires : tie.Need-slot-holds-requires
-slot-holds-requires c κs = search needs
+cast-result : tie.Need-cast-result
+cast-result c = search needs
 
-buffers-hold-requires : tie.Need-buffers-hold-requires
-buffers-hold-requires c κs = search needs
+cast-result-2 : tie.Need-cast-result-2
+cast-result-2 c = search needs
 
 returns : tie.Need-returns
-returns c =
-    let counts = c .before .before .before .before .before .before .before .before .before .before .before .slot-counts .ensures in
-    rw (counts .0, counts .1, c .before .before .slots-hold .ensures, c .before .slot-holds .ensures, c .buffers-hold .ensures)
-    (whole-walk (c .before .before .before .before .before .before .before .before .before .before .before .before .before .before .args .pm))
+returns c rows =
+    let half = c .before .before .before .before .before .before in
+    let with-lease = half .before .before .before .before .before .before in
+    let at-slots = with-lease .before in
+    let s = at-slots .before .before in
+    whole-told (s .args .keys .now) rows (s .args .rest) (at-slots .tally-all .result) (with-lease .tally-key .result) (at-slots .tally-all .ensures .0) (with-lease .tally-key .ensures)
 
 pub is-whole-spec : {M : Type 1} → statement M
-is-whole-spec =
-    tie.close
-    (tie.spec
-    slot-counts-requires
-    slots-hold-requires
-    slot-holds-requires
-    buffers-hold-requires
-    returns)
+is-whole-spec = tie.close (tie.spec tally-all-requires tally-key-requires cast-result cast-result-2 returns)

@@ -27,8 +27,8 @@ add-rows c = search needs
 mul-rows : tie.Need-mul-rows Inv-loop μ-loop
 mul-rows c = search needs
 
-element-write-rows : tie.Need-element-write-rows Inv-loop μ-loop
-element-write-rows c = search needs
+slice-write-rows : tie.Need-slice-write-rows Inv-loop μ-loop
+slice-write-rows c = search needs
 
 add-j : tie.Need-add-j Inv-loop μ-loop
 add-j c = search needs
@@ -48,6 +48,9 @@ loop-again c =
           (sym (getD-replicate rowLength (l .j) 0 0 (omega arith))),
     )
 
+same-length : tie.Need-same-length Inv-loop μ-loop
+same-length c = search needs
+
 returns : tie.Need-returns Inv-loop μ-loop
 returns c =
     let l = c .before .loop in
@@ -64,8 +67,9 @@ clear-row-spec =
     loop-holds
     add-rows
     mul-rows
-    element-write-rows
+    slice-write-rows
     add-j
     loop-less
     loop-again
+    same-length
     returns)

@@ -31,8 +31,8 @@ add-rows c = search needs
 mul-rows : tie.Need-mul-rows Inv-loop μ-loop
 mul-rows c = search needs
 
-element-copy-out-rows : tie.Need-element-copy-out-rows Inv-loop μ-loop
-element-copy-out-rows c = search needs
+slice-read-rows : tie.Need-slice-read-rows Inv-loop μ-loop
+slice-read-rows c = search needs
 
 add-rows-2 : tie.Need-add-rows-2 Inv-loop μ-loop
 add-rows-2 c = search needs
@@ -40,8 +40,8 @@ add-rows-2 c = search needs
 mul-rows-2 : tie.Need-mul-rows-2 Inv-loop μ-loop
 mul-rows-2 c = search needs
 
-element-write-rows : tie.Need-element-write-rows Inv-loop μ-loop
-element-write-rows c = search needs
+slice-write-rows : tie.Need-slice-write-rows Inv-loop μ-loop
+slice-write-rows c = search needs
 
 add-j : tie.Need-add-j Inv-loop μ-loop
 add-j c = search needs
@@ -71,6 +71,9 @@ loop-again c =
       pasting-turn before (21 * a .to) row (a .n) (l .j) (l .rows) _ p (l .inv .5) (omega arith) (omega arith) (omega arith) same,
     )
 
+same-length : tie.Need-same-length Inv-loop μ-loop
+same-length c = search needs
+
 returns : tie.Need-returns Inv-loop μ-loop
 returns c =
     let l = c .before .loop in
@@ -88,11 +91,12 @@ copy-row-spec =
     loop-holds
     add-rows
     mul-rows
-    element-copy-out-rows
+    slice-read-rows
     add-rows-2
     mul-rows-2
-    element-write-rows
+    slice-write-rows
     add-j
     loop-less
     loop-again
+    same-length
     returns)

@@ -27,8 +27,8 @@ add-numbers c = search needs
 mul-numbers : tie.Need-mul-numbers Inv-loop μ-loop
 mul-numbers c = search needs
 
-element-copy-out-numbers : tie.Need-element-copy-out-numbers Inv-loop μ-loop
-element-copy-out-numbers c = search needs
+shared-slice-read-numbers : tie.Need-shared-slice-read-numbers Inv-loop μ-loop
+shared-slice-read-numbers c = search needs
 
 mul-numbers-2 : tie.Need-mul-numbers-2 Inv-loop μ-loop
 mul-numbers-2 c = search needs
@@ -64,7 +64,7 @@ read-row-spec =
     loop-holds
     add-numbers
     mul-numbers
-    element-copy-out-numbers
+    shared-slice-read-numbers
     mul-numbers-2
     array-write-numbers
     add-j

@@ -33,8 +33,8 @@ add-rows c = search needs
 mul-rows-2 : tie.Need-mul-rows-2 Inv-loop μ-loop
 mul-rows-2 c = search needs
 
-element-write-rows : tie.Need-element-write-rows Inv-loop μ-loop
-element-write-rows c = search needs
+slice-write-rows : tie.Need-slice-write-rows Inv-loop μ-loop
+slice-write-rows c = search needs
 
 add-j : tie.Need-add-j Inv-loop μ-loop
 add-j c = search needs
@@ -54,6 +54,9 @@ loop-again c =
       pasting-turn (a .rows .now) (21 * a .to) (a .numbers .now) rowLength (l .j) (l .rows) _ p (l .inv .2) (omega arith) (omega arith) (omega arith) refl,
     )
 
+same-length : tie.Need-same-length Inv-loop μ-loop
+same-length c = search needs
+
 returns : tie.Need-returns Inv-loop μ-loop
 returns c =
     let l = c .before .loop in
@@ -72,8 +75,9 @@ write-row-spec =
     element-copy-out-rows
     add-rows
     mul-rows-2
-    element-write-rows
+    slice-write-rows
     add-j
     loop-less
     loop-again
+    same-length
     returns)

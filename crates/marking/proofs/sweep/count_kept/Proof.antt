@@ -1,36 +1,35 @@
--- `marking::sweep::count_kept` meets its contract. The loop: n, and those not picked from place i on, are together those not picked. Assumes nothing.
-use mathlib.Core.Path.{_≡_, ap, sym, _∙_}
-use mathlib.Core.Bool.{not}
-use Prim.Native.Nat.{_≤_, _-_, _+_}
-use lib.ListN.{length, drop}
+-- `marking::sweep::count_kept` meets its contract: what is counted so far, with what is left, is the count of all. Assumes nothing.
+use mathlib.Core.Path.{_≡_}
+use mathlib.Core.Bool.{false, not}
+use Prim.Native.Nat.{_≤_, _+_, _-_}
 use native.Mathlib.Omega.{arith}
 use borrow.Author.Needs.{needs}
-use Rattle.seq.specs.Lists.{selectAt}
-use Rattle.seq.specs.Places.{select-hit, select-miss, select-end}
-use Rattle.def.specs.State.{noSlot}
-use Rattle.marking.specs.Marking.{outdated}
-use Rattle.seq.specs.Partition.{others}
+use lib.ListN.{length, drop}
+use Rattle.seq.specs.Lists.{count}
+use Rattle.seq.specs.Walks.{counted, count-end}
 use Rattle.marking.proofs.sweep.count_kept.Statement.{statement}
 use Rattle.marking.proofs.sweep.count_kept.Tie as tie
 
 abbrev Inv-loop : tie.InvT-loop
-Inv-loop gap pic n₀ i₀ n i =
-    (i ≤ 27) × (n ≤ i) × (n + length (selectAt (others (outdated gap)) i (drop i pic)) ≡ length (selectAt (others (outdated gap)) 0 pic))
+Inv-loop picks n₀ i₀ n i = (i ≤ 27) × (length picks ≡ 27) × (n + count not (drop i picks) ≡ count not picks)
 
 abbrev μ-loop : tie.MeasureT-loop
-μ-loop gap pic n₀ i₀ n i = 27 - i
+μ-loop picks n₀ i₀ n i = 27 - i
 
 loop-holds : tie.Need-loop-holds Inv-loop μ-loop
 loop-holds c = search needs
 
-mul-s : tie.Need-mul-s Inv-loop μ-loop
-mul-s c = search needs
+element-copy-out-n : tie.Need-element-copy-out-n Inv-loop μ-loop
+element-copy-out-n c = search needs
 
-array-copy-out-s : tie.Need-array-copy-out-s Inv-loop μ-loop
-array-copy-out-s c = search needs
+cast-n : tie.Need-cast-n Inv-loop μ-loop
+cast-n c = tt
 
-is-outdated-requires : tie.Need-is-outdated-requires Inv-loop μ-loop
-is-outdated-requires c κs = search needs
+add-n : tie.Need-add-n Inv-loop μ-loop
+add-n c =
+    let l = c .before .before .loop in
+    let s = counted false not (c .before .before .before .args .picks .now) (l .i) (l .n) (omega arith) (l .inv .2) in
+    omega arith
 
 add-i : tie.Need-add-i Inv-loop μ-loop
 add-i c = search needs
@@ -40,35 +39,13 @@ loop-less c = search needs
 
 loop-again : tie.Need-loop-again Inv-loop μ-loop
 loop-again c =
-    let a = c .before .before .before .before .before .args in
-    let l = c .before .before .before .before .loop in
-    let h : length (a .t1) ≡ 27 = search needs in
-    let e = select-miss (others (outdated (a .gap))) noSlot (a .t1) (l .i) (omega arith) (ap not (sym (c .before .is-outdated .ensures) ∙ c .if1 .taken)) in
-    (omega arith, omega arith, omega (arith, ap length e))
-
-add-n : tie.Need-add-n Inv-loop μ-loop
-add-n c = search needs
-
-add-i-2 : tie.Need-add-i-2 Inv-loop μ-loop
-add-i-2 c = search needs
-
-loop-less-2 : tie.Need-loop-less-2 Inv-loop μ-loop
-loop-less-2 c = search needs
-
-loop-again-2 : tie.Need-loop-again-2 Inv-loop μ-loop
-loop-again-2 c =
-    let a = c .before .before .before .before .before .args in
-    let l = c .before .before .before .before .loop in
-    let h : length (a .t1) ≡ 27 = search needs in
-    let e = select-hit (others (outdated (a .gap))) noSlot (a .t1) (l .i) (omega arith) (ap not (sym (c .before .is-outdated .ensures) ∙ c .if1 .left)) in
-    (omega arith, omega arith, omega (arith, ap length e))
+    let l = c .before .before .loop in
+    (omega arith, l .inv .1, counted false not (c .before .before .before .args .picks .now) (l .i) (l .n) (omega arith) (l .inv .2) .again)
 
 returns : tie.Need-returns Inv-loop μ-loop
 returns c =
-    let a = c .before .before .args in
     let l = c .before .loop in
-    let h : length (a .t1) ≡ 27 = search needs in
-    omega (arith, ap length (select-end (others (outdated (a .gap))) noSlot (a .t1) (l .i) (omega arith)))
+    omega (arith, count-end false not (c .before .before .args .picks .now) (l .i) (omega arith))
 
 pub count-kept-spec : {M : Type 1} → statement M
 count-kept-spec =
@@ -77,14 +54,10 @@ count-kept-spec =
     Inv-loop
     μ-loop
     loop-holds
-    mul-s
-    array-copy-out-s
-    is-outdated-requires
+    element-copy-out-n
+    cast-n
+    add-n
     add-i
     loop-less
     loop-again
-    add-n
-    add-i-2
-    loop-less-2
-    loop-again-2
     returns)

@@ -1,7 +1,7 @@
 -- `marking::sweep::misses_gap` meets its contract: a gap of 0 misses nothing. Assumes nothing.
 use native.Mathlib.Omega.{arith}
-use borrow.Author.Tests.{lt-ltb, le-ltb}
 use borrow.Author.Needs.{needs}
+use borrow.Author.Tests.{lt-ltb, le-ltb}
 use Rattle.marking.proofs.sweep.misses_gap.Statement.{statement}
 use Rattle.marking.proofs.sweep.misses_gap.Tie as tie
 

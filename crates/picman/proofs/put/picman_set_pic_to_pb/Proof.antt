@@ -1,62 +1,77 @@
--- `picman::put::picman_set_pic_to_pb` meets its contract: the picture in its slot, the lease empty, and both counts. Assumes nothing.
-use mathlib.Core.Path.{_≡_, refl, ap, _∙_}
-use mathlib.Core.Bool.{Bool, true, false, cond}
-use Prim.Native.Nat.{ℕ, _+_, _<_}
+-- `picman::put::picman_set_pic_to_pb` meets its contract: the row is written, the key made, and the rest follows. Assumes nothing.
+use Prim.Native.Nat.{_<_}
 use native.Mathlib.Omega.{arith}
-use lib.ListN.{set}
-use mir.Syntax.{w8}
-use mir.Val.{Fits, boolByte}
-use Rattle.def.specs.declared.Slot.{Slot}
-use Rattle.def.specs.State.{emptySlot, held, withStore}
-use Rattle.picman.specs.Put.{taken}
 use borrow.Author.Needs.{needs}
+use Rattle.keys.proofs.KeyLaws.{small}
+use Rattle.picman.proofs.PutOnKeys.{pic-placed}
 use Rattle.picman.proofs.put.picman_set_pic_to_pb.Statement.{statement}
 use Rattle.picman.proofs.put.picman_set_pic_to_pb.Tie as tie
 
-room : (r : Bool) (n : ℕ) → n < 27 → Fits w8 (n + boolByte r)
-room true n h = omega arith
-room false n h = omega arith
+layer-fits : (c : tie.Start) → c .args .call .«temporal_id» < 256
+layer-fits c = search needs
 
-counted : (r : Bool) (n : ℕ) → n + boolByte r ≡ cond r (n + 1) n
-counted true n = refl
-counted false n = omega arith
+buffer-of-requires : tie.Need-buffer-of-requires
+buffer-of-requires c κs = search needs
 
-empty-slot-requires : tie.Need-empty-slot-requires
-empty-slot-requires c κs = search needs
+cast-copy-row : tie.Need-cast-copy-row
+cast-copy-row c = search needs
 
-mul-slot : tie.Need-mul-slot
-mul-slot c = search needs
+copy-row-requires : tie.Need-copy-row-requires
+copy-row-requires c κs =
+    let s = c .before .before .before .before .before in
+    let b = c .before .before .buffer-of .ensures .0 in
+    let h = s .pre .1 .buffer-below in
+    (s .pre .0 .rows-long, omega arith, omega arith, (λ e. omega arith), s .pre .1 .forward-few)
 
-element-set-from-slot : tie.Need-element-set-from-slot
-element-set-from-slot c = search needs
+key-of-requires : tie.Need-key-of-requires
+key-of-requires c κs = search needs
 
-add-next : tie.Need-add-next
-add-next c = search needs
+mul-keys : tie.Need-mul-keys
+mul-keys c = search needs
 
-cast-next : tie.Need-cast-next
-cast-next c = search needs
+slice-write-keys : tie.Need-slice-write-keys
+slice-write-keys c = search needs
 
-add-next-2 : tie.Need-add-next-2
-add-next-2 c =
-    let a = c .before .before .args in
-    room (a .call .«ref_pic») (a .pm .«cur_num_ref_pics») (c .before .before .pre .2)
+add-after : tie.Need-add-after
+add-after c = search needs
+
+cast-after : tie.Need-cast-after
+cast-after c = search needs
+
+add-after-2 : tie.Need-add-after-2
+add-after-2 c = let s = c .before .before .before .before .before .before .before .before .before .before .before .before in omega (arith, small (s .args .call .«ref_pic»), s .pre .1 .refs-room)
+
+buffer-byte-requires : tie.Need-buffer-byte-requires
+buffer-byte-requires c κs = search needs
+
+same-length : tie.Need-same-length
+same-length c = search needs
+
+same-length-2 : tie.Need-same-length-2
+same-length-2 c = search needs
 
 returns : tie.Need-returns
 returns c =
-    let a = c .before .before .args in
-    let pics = set (a .pm .pic) (a .pos) (held (taken (a .call) (a .list-poc)) (a .pm .«pic_lease» .buf)) in
-    let refs = a .pm .«cur_num_ref_pics» + boolByte (a .call .«ref_pic») in
-    ap (λ (l : Slot). withStore (a .pm) pics l (a .pm .«cur_pb_size» + 1) refs) (c .before .empty-slot .ensures)
-    ∙ ap (withStore (a .pm) pics emptySlot (a .pm .«cur_pb_size» + 1)) (counted (a .call .«ref_pic») (a .pm .«cur_num_ref_pics»))
+    let s = c .before .before .before .before .before .before .before .before .before .before .before .before .before in
+    let w = c .before .before .before .before .before .before .before .copy-row .ensures in
+    let k = c .before .before .before .before .key-of .ensures in
+    let b = c .before .before .before .before .before .before .before .before .before .before .buffer-of .ensures .0 in
+    rw (w, k, b, c .buffer-byte .ensures) (pic-placed (s .args .keys .now) (s .args .rows .now) (s .args .rest) (s .args .call) (s .args .pos) (s .pre .0) (s .pre .1) (layer-fits s))
 
 pub picman-set-pic-to-pb-spec : {M : Type 1} → statement M
 picman-set-pic-to-pb-spec =
     tie.close
     (tie.spec
-    empty-slot-requires
-    mul-slot
-    element-set-from-slot
-    add-next
-    cast-next
-    add-next-2
+    buffer-of-requires
+    cast-copy-row
+    copy-row-requires
+    key-of-requires
+    mul-keys
+    slice-write-keys
+    add-after
+    cast-after
+    add-after-2
+    buffer-byte-requires
+    same-length
+    same-length-2
     returns)

@@ -12,21 +12,21 @@ use Rattle.store.proofs.search.lowest_free.Statement.{statement}
 use Rattle.store.proofs.search.lowest_free.Tie as tie
 
 abbrev Inv-loop : tie.InvT-loop
-Inv-loop held i₀ i = (i ≤ 256) × (length held ≡ 256) × (i + lowest not (drop i held) ≡ lowest not held)
+Inv-loop held i₀ i = (i ≤ 32) × (length held ≡ 32) × (i + lowest not (drop i held) ≡ lowest not held)
 
 abbrev μ-loop : tie.MeasureT-loop
-μ-loop held i₀ i = 256 - i
+μ-loop held i₀ i = 32 - i
 
 loop-holds : tie.Need-loop-holds Inv-loop μ-loop
 loop-holds c = search needs
 
-array-read-if1 : tie.Need-array-read-if1 Inv-loop μ-loop
-array-read-if1 c = omega arith
+element-copy-out-if1 : tie.Need-element-copy-out-if1 Inv-loop μ-loop
+element-copy-out-if1 c = search needs
 
 returns : tie.Need-returns Inv-loop μ-loop
 returns c =
-    let l = c .before .before .loop in
-    omega (arith, lowest-hit false not (c .before .before .before .args .t1) (l .i) (omega arith) (c .if1 .taken))
+    let l = c .before .before .before .loop in
+    omega (arith, lowest-hit false not (c .before .before .before .before .args .held .now) (l .i) (omega arith) (c .if1 .taken))
 
 add-i : tie.Need-add-i Inv-loop μ-loop
 add-i c = omega arith
@@ -36,11 +36,11 @@ loop-less c = omega arith
 
 loop-again : tie.Need-loop-again Inv-loop μ-loop
 loop-again c =
-    let l = c .before .before .loop in
-    (omega arith, omega arith, lowest-miss false not (c .before .before .before .args .t1) (l .i) (omega arith) (c .if1 .left) ∙ l .inv .2)
+    let l = c .before .before .before .loop in
+    (omega arith, omega arith, lowest-miss false not (c .before .before .before .before .args .held .now) (l .i) (omega arith) (c .if1 .left) ∙ l .inv .2)
 
 returns-2 : tie.Need-returns-2 Inv-loop μ-loop
-returns-2 c = omega (arith, lowest-end false not (c .before .before .args .t1) (c .before .loop .i) (omega arith))
+returns-2 c = omega (arith, lowest-end false not (c .before .before .args .held .now) (c .before .loop .i) (omega arith))
 
 pub lowest-free-spec : {M : Type 1} → statement M
 lowest-free-spec =
@@ -49,7 +49,7 @@ lowest-free-spec =
     Inv-loop
     μ-loop
     loop-holds
-    array-read-if1
+    element-copy-out-if1
     returns
     add-i
     loop-less

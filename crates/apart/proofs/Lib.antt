@@ -1,0 +1,3 @@
+pub mod ApartLaws
+pub mod Taken
+pub mod Fitting

@@ -1,0 +1,44 @@
+-- What holds of every call and every line: one that is turned down leaves state, lists and record as they were; a whole state stays whole;
+-- so refusal 7 never follows in a run from the new machine. The proofs stand in proofs/EveryCall.antt.
+-- Assumes nothing.
+use Prim.Native.Nat.{ℕ, _≤_}
+use mathlib.Core.Path.{_≡_}
+use mathlib.Core.Bool.{true}
+use lib.ListN.{length}
+use Rattle.def.specs.State.{slots}
+use Rattle.whole.specs.Whole.{whole}
+use Rattle.line.specs.declared.{Call.Call, Line.Line, Reply.Reply}
+use Rattle.machine.specs.declared.Machine.{Machine}
+use Rattle.machine.specs.Step.{newMachine, step, stepLine}
+
+-- A status from 1 to 18.
+abbrev pub TurnedDown : Reply → Type 0
+TurnedDown r = (1 ≤ r .status) × (r .status ≤ 18)
+
+abbrev pub CallUnchanged : Type 0
+CallUnchanged = (m : Machine) (c : Call) → TurnedDown (step m c .reply) → step m c .machine ≡ m
+
+-- A bad line too.
+abbrev pub LineUnchanged : Type 0
+LineUnchanged = (m : Machine) (l : Line) → TurnedDown (stepLine m l .reply) → stepLine m l .machine ≡ m
+
+-- A machine whose state is whole, with all its slots.
+pub record Sound (m : Machine) : Type 0 where
+  pub whole-state : whole (m .pm) ≡ true
+  pub all-slots : length (m .pm .pic) ≡ slots
+
+abbrev pub CallSound : Type 0
+CallSound = (m : Machine) (c : Call) → Sound m → Sound (step m c .machine)
+
+abbrev pub LineSound : Type 0
+LineSound = (m : Machine) (l : Line) → Sound m → Sound (stepLine m l .machine)
+
+abbrev pub NewSound : Type 0
+NewSound = Sound newMachine
+
+-- On such a machine no call and no line is answered with 7.
+abbrev pub CallNotSeven : Type 0
+CallNotSeven = (m : Machine) (c : Call) → Sound m → step m c .reply .status ≡ 7 → ⊥
+
+abbrev pub LineNotSeven : Type 0
+LineNotSeven = (m : Machine) (l : Line) → Sound m → stepLine m l .reply .status ≡ 7 → ⊥

@@ -1,0 +1,90 @@
+-- The running machine: which machine the lent arrays and the scalars stand for, and what a call on them comes to.
+-- Assumes nothing.
+use mathlib.Core.Path.{_≡_}
+use mathlib.Core.Bool.{Bool, true, false}
+use mathlib.Core.List.{List}
+use Prim.Native.Nat.{ℕ}
+use lib.IntN.{pos}
+use Rattle.def.specs.declared.EvcPoc.{EvcPoc}
+use Rattle.keys.specs.Keys.{stands, listsIn, Sized}
+use Rattle.keys.specs.declared.Called.{Called}
+use Rattle.poc.specs.PictureNumber.{derive, recordOf}
+use Rattle.line.specs.declared.Call.{Call}
+use Rattle.line.specs.declared.Call.the-variants.{Init, GetEmptyPic, PutPic, OutPic, RefpInit, PocDerivation}
+use Rattle.line.specs.Answers.{replyOf}
+use Rattle.machine.specs.Step.{derivedReply}
+use Rattle.machine.specs.Claims.{TurnedDown}
+use Rattle.whole.specs.Whole.{whole}
+use Rattle.machine.specs.declared.{Machine.Machine, Stepped.Stepped, Scalars.Scalars, Made.Made}
+
+abbrev pub machineIn : List ℕ → List ℕ → Scalars → Machine
+machineIn keys rows s = record { pm = stands keys rows (s .rest); refp = listsIn rows; poc = s .poc }
+
+-- Every call but the derivation reads the state, which it tests first.
+abbrev pub readsState : Call → Bool
+readsState (Init size refs) = true
+readsState GetEmptyPic = true
+readsState (PutPic flags poc tid gap) = true
+readsState OutPic = true
+readsState (RefpInit slice poc layer intra limit) = true
+readsState (PocDerivation L t) = false
+
+-- Arrays of the right size whose state is whole.
+pub record Runs (keys rows : List ℕ) (s : Scalars) : Type 0 where
+  pub sized : Sized keys rows
+  pub whole-state : whole (stands keys rows (s .rest)) ≡ true
+
+-- What a call asks of them: a call that reads the state asks that it is whole.
+pub record CallRoom (keys rows : List ℕ) (s : Scalars) (call : Call) : Type 0 where
+  pub sized : Sized keys rows
+  pub ready : readsState call ≡ true → whole (stands keys rows (s .rest)) ≡ true
+
+-- Arrays and scalars are as they were.
+pub record Untouched (r : Made) (s : Scalars) (keys rows keys′ rows′ : List ℕ) : Type 0 where
+  pub same-keys : keys′ ≡ keys
+  pub same-rows : rows′ ≡ rows
+  pub same-scalars : r .scalars ≡ s
+
+-- The reply and the machine after the call are the definition's, and a call that is turned down touches nothing.
+pub record Makes (r : Made) (s : Scalars) (keys rows keys′ rows′ : List ℕ) (wanted : Stepped) : Type 0 where
+  pub replies : r .reply ≡ wanted .reply
+  pub machine-is : machineIn keys′ rows′ (r .scalars) ≡ wanted .machine
+  pub still-sized : Sized keys′ rows′
+  pub refused-leaves : TurnedDown (r .reply) → Untouched r s keys rows keys′ rows′
+
+-- A call's answer as a reply; state and lists are the call's, the record stays.
+abbrev pub madeOf : ℕ → Called → EvcPoc → Made
+madeOf call r poc = record { reply = replyOf call (r .answer); scalars = record { rest = r .rest; poc = poc } }
+
+-- What a derivation comes to; the state stays.
+abbrev pub derivedOf : Scalars → ℕ → ℕ → Made
+derivedOf s L t =
+    let d = derive L t (s .poc) in
+    record { reply = derivedReply 6 (d .answer); scalars = record { rest = s .rest; poc = d .poc } }
+
+-- The scalars of the new machine.
+abbrev pub newScalars : Scalars
+newScalars =
+    record {
+      rest = record {
+        lease = 0;
+        «max_pb_size» = 0;
+        «max_num_ref_pics» = 0;
+        «cur_pb_size» = 0;
+        «cur_num_ref_pics» = 0;
+        «num_refp_0» = 0;
+        «num_refp_1» = 0;
+        «poc_next_output» = 0;
+        «poc_increase» = 0;
+      };
+      poc = recordOf (pos 0) 0 0;
+    }
+
+-- The byte that an answer to the call begins with.
+abbrev pub callByte : Call → ℕ
+callByte (Init size refs) = 1
+callByte GetEmptyPic = 2
+callByte (PutPic flags poc tid gap) = 3
+callByte OutPic = 4
+callByte (RefpInit slice poc layer intra limit) = 5
+callByte (PocDerivation L t) = 6

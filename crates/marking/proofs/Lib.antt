@@ -1,0 +1,4 @@
+pub mod Steps
+pub mod Kept
+pub mod Limits
+pub mod OnKeys

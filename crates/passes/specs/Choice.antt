@@ -1,0 +1,70 @@
+-- What a list call takes from an ordered list of keys, decided before anything is written: the pictures of both lists, or why it is turned down.
+-- Assumes nothing.
+use Prim.Native.Nat.{_≤_}
+use mathlib.Core.Path.{_≡_}
+use mathlib.Core.Bool.{Bool, true, false, cond}
+use mathlib.Core.List.{List, []}
+use lib.Dec.{ltb, eqb}
+use lib.ListN.{length}
+use Rattle.def.specs.State.{listPlaces}
+use Rattle.def.specs.declared.{RefpCall.RefpCall, SliceType.SliceType, Refusal.Refusal}
+use Rattle.passes.specs.declared.Walk.{Walk}
+use Rattle.passes.specs.Order.{Key}
+use Rattle.passes.specs.Passes.{Passed, took, met-old, askOf, listOf}
+
+pub data Chosen : Type 0 where
+  turned-down : Refusal → Chosen
+  chosen : List Key → List Key → Chosen
+
+abbrev pub isB : SliceType → Bool
+isB SliceType.«EVC_ST_UNKNOWN» = false
+isB SliceType.«EVC_ST_I» = false
+isB SliceType.«EVC_ST_P» = false
+isB SliceType.«EVC_ST_B» = true
+
+-- The forward list of P and of unknown takes lower numbers downwards; that of B too, and then higher ones upwards.
+abbrev pub forwardWalk : SliceType → Walk
+forwardWalk SliceType.«EVC_ST_UNKNOWN» = Walk.Down
+forwardWalk SliceType.«EVC_ST_I» = Walk.Down
+forwardWalk SliceType.«EVC_ST_P» = Walk.Down
+forwardWalk SliceType.«EVC_ST_B» = Walk.DownThenUp
+
+abbrev pub forwardOf : RefpCall → List Key → Passed
+forwardOf c ks = listOf (askOf c) (forwardWalk (c .«slice_type»)) ks
+
+-- The backward list, of B alone: higher numbers upwards first, then lower ones downwards.
+abbrev pub backwardOf : RefpCall → List Key → Passed
+backwardOf c ks = listOf (askOf c) Walk.UpThenDown ks
+
+-- After the backward list: an old reference was met (10), the list is empty (12).
+abbrev pub withBackward : List Key → Passed → Chosen
+withBackward fwd met-old = turned-down Refusal.OldReference
+withBackward fwd (took bwd) = cond (eqb (length bwd) 0) (turned-down Refusal.BackwardListEmpty) (chosen fwd bwd)
+
+-- After the forward list: an old reference was met (10), the list is empty (11), and then, for B, the backward list.
+abbrev pub withForward : Bool → Passed → Passed → Chosen
+withForward both bwd met-old = turned-down Refusal.OldReference
+withForward both bwd (took fwd) =
+    cond (eqb (length fwd) 0) (turned-down Refusal.ForwardListEmpty) (cond both (withBackward fwd bwd) (chosen fwd []))
+
+-- More than 21 are marked (8), none is marked (9), and then the lists. Slice I asks for no list and does not come here.
+unfoldable pub choice : RefpCall → List Key → Chosen
+choice c ks =
+    cond (ltb listPlaces (length ks)) (turned-down Refusal.TooManyReferences)
+    (cond (eqb (length ks) 0) (turned-down Refusal.NoReferences)
+    (withForward (isB (c .«slice_type»)) (backwardOf c ks) (forwardOf c ks)))
+
+-- ---- what it means that lists were chosen
+
+-- The backward list of B, or none.
+pub data Backward (c : RefpCall) (ks bwd : List Key) : Type 0 where
+  of-b : isB (c .«slice_type») ≡ true → backwardOf c ks ≡ took bwd → (length bwd ≡ 0 → ⊥) → Backward c ks bwd
+  of-other : isB (c .«slice_type») ≡ false → bwd ≡ [] → Backward c ks bwd
+
+-- From 1 to 21 are marked, the forward list is what its passes come to and has an entry, and so has the backward list of B.
+pub record Accepted (c : RefpCall) (ks fwd bwd : List Key) : Type 0 where
+  pub at-most : length ks ≤ listPlaces
+  pub some : length ks ≡ 0 → ⊥
+  pub forward-is : forwardOf c ks ≡ took fwd
+  pub forward-some : length fwd ≡ 0 → ⊥
+  pub backward-is : Backward c ks bwd

@@ -1,0 +1,112 @@
+-- The order, a pass and the choice in plain numbers: what the arrays hold, what a pass asks, and what it leaves.
+-- Assumes nothing.
+use Prim.Native.Nat.{ℕ, _+_, _-_, _/_, _%_, _≤_}
+use mathlib.Core.Path.{_≡_}
+use mathlib.Core.Bool.{Bool, cond}
+use mathlib.Core.List.{List, map}
+use lib.Dec.{ltb}
+use lib.ListN.{length, take, drop}
+use Rattle.seq.specs.Lists.{count}
+use Rattle.def.specs.State.{slots, listPlaces}
+use Rattle.def.specs.declared.Answer.{Answer}
+use Rattle.passes.specs.declared.{PassRule.PassRule, PassEnd.PassEnd}
+use Rattle.passes.specs.Order.{Key}
+use Rattle.passes.specs.Passes.{Ask, Passed, took, met-old, below, sideOf, pass}
+use Rattle.passes.specs.Choice.{Chosen, turned-down, chosen}
+
+-- ---- keys
+
+-- A key as one number, number * 2^16 + layer * 2^8 + slot.
+abbrev pub keyIn : ℕ → Key
+keyIn n = record { poc = n / 65536; layer = n / 256 % 256; slot = n % 256 }
+
+-- the first n of them
+abbrev pub keysIn : ℕ → List ℕ → List Key
+keysIn n ns = map keyIn (take n ns)
+
+-- The place of the key that comes after i others.
+abbrev pub placeOf : Bool → ℕ → ℕ → ℕ
+placeOf up num i = cond up (num - 1 - i) i
+
+-- ---- what a pass asks
+
+abbrev pub boundAfter : Bool → ℕ → ℕ → ℕ
+boundAfter falls fixed layer = cond falls (below layer) fixed
+
+abbrev pub askIn : PassRule → Ask
+askIn r = record {
+  limit = r .limit;
+  poc = r .poc;
+  old = λ k. ltb (k .poc) (r .oldest);
+  start = r .start;
+  after = boundAfter (r .falls) (r .fixed);
+}
+
+-- Two requests ask the same.
+pub record SameAsk (a b : Ask) : Type 0 where
+  pub same-limit : a .limit ≡ b .limit
+  pub same-poc : a .poc ≡ b .poc
+  pub same-old : (k : Key) → a .old k ≡ b .old k
+  pub same-start : a .start ≡ b .start
+  pub same-after : (layer : ℕ) → a .after layer ≡ b .after layer
+
+-- ---- what a pass leaves
+
+-- What a pass comes to, its entries read from the array.
+abbrev pub endIn : PassEnd → List ℕ → Passed
+endIn (PassEnd.Took n) ns = took (keysIn n ns)
+endIn PassEnd.MetOld ns = met-old
+
+abbrev pub entriesIn : PassEnd → ℕ
+entriesIn (PassEnd.Took n) = n
+entriesIn PassEnd.MetOld = 0
+
+-- Both arrays have their lengths, and the list has room for each key of the side that the pass takes.
+pub record PassRoom (pics : List ℕ) (num : ℕ) (list : List ℕ) (from cnt : ℕ) (rule : PassRule) (up : Bool) : Type 0 where
+  pub keys-long : length pics ≡ slots
+  pub list-long : length list ≡ listPlaces + listPlaces
+  pub few : num ≤ slots
+  pub starts : from ≤ listPlaces
+  pub room : cnt + count (sideOf up (rule .poc)) (keysIn num pics) ≤ listPlaces
+
+-- The list from `from` on is what the pass comes to; what stands before it is untouched.
+pub record PassDone (end : PassEnd) (ks : List Key) (before after : List ℕ) (from cnt : ℕ) (rule : PassRule) (up : Bool) : Type 0 where
+  pub comes-to : endIn end (drop from after) ≡ pass (askIn rule) up ks (keysIn cnt (drop from before))
+  pub kept : take from after ≡ take from before
+  pub list-long : length after ≡ listPlaces + listPlaces
+  pub counted : entriesIn end ≤ cnt + count (sideOf up (rule .poc)) ks
+
+pub record PassesRoom (pics : List ℕ) (num : ℕ) (list : List ℕ) (from : ℕ) : Type 0 where
+  pub keys-long : length pics ≡ slots
+  pub list-long : length list ≡ listPlaces + listPlaces
+  pub few : num ≤ listPlaces
+  pub starts : from ≤ listPlaces
+
+-- The same of the passes of one list.
+pub record PassesDone (end : PassEnd) (wanted : Passed) (num : ℕ) (before after : List ℕ) (from : ℕ) : Type 0 where
+  pub comes-to : endIn end (drop from after) ≡ wanted
+  pub kept : take from after ≡ take from before
+  pub list-long : length after ≡ listPlaces + listPlaces
+  pub counted : entriesIn end ≤ num
+
+-- ---- what was chosen
+
+abbrev pub answerOf : Chosen → Answer
+answerOf (turned-down why) = Answer.Refused why
+answerOf (chosen fwd bwd) = Answer.Counts (length fwd) (length bwd)
+
+-- The array starts with the keys of the forward list; those of the backward list stand from place 21 on.
+pub record BothIn (fwd bwd : List Key) (ns : List ℕ) : Type 0 where
+  pub forward-in : keysIn (length fwd) ns ≡ fwd
+  pub backward-in : keysIn (length bwd) (drop listPlaces ns) ≡ bwd
+  pub forward-few : length fwd ≤ listPlaces
+  pub backward-few : length bwd ≤ listPlaces
+
+abbrev pub ListsIn : Chosen → List ℕ → Type 0
+ListsIn (turned-down why) ns = Unit {0}
+ListsIn (chosen fwd bwd) ns = BothIn fwd bwd ns
+
+pub record Decided (answer : Answer) (ns : List ℕ) (c : Chosen) : Type 0 where
+  pub answered : answer ≡ answerOf c
+  pub lists-in : ListsIn c ns
+  pub list-long : length ns ≡ listPlaces + listPlaces

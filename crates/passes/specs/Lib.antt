@@ -1,0 +1,5 @@
+pub mod Order
+pub mod Passes
+pub mod Choice
+pub mod InNumbers
+pub mod Claims

@@ -1,0 +1,238 @@
+-- What every list call does, each claim of specs/Claims.antt under its name: the ways in which a call ends, and what follows from them.
+-- Assumes nothing.
+use mathlib.Core.Path.{_≡_, refl, sym, ap, _∙_, subst}
+use mathlib.Core.Bool.{Bool, true, false, cond, not}
+use mathlib.Core.Bool as Bool
+use mathlib.Core.List.{List, [], _∷_, List·Memᴰ}
+use Prim.Native.Nat.{ℕ, _+_, _≤_}
+use native.Mathlib.Omega.{arith}
+use lib.Dec.{ltb, eqb}
+use lib.ListN.{length, getD}
+use borrow.Author.Tests.{ltb-true, ltb-false, lt-ltb, le-ltb, eqb-true, eqb-false, eq-eqb, ne-eqb}
+use Rattle.seq.specs.Lists.{count}
+use Rattle.seq.specs.Distinct.{distinct-map}
+use Rattle.def.specs.State.{listPlaces, highestPoc, noSlot, isMarked, withCounts}
+use Rattle.def.specs.declared.{Slot.Slot, EvcPm.EvcPm, EvcRefP.EvcRefP, RefpCall.RefpCall, RefpResult.RefpResult, Answer.Answer, Refusal.Refusal}
+use Rattle.whole.specs.Whole.{whole}
+use Rattle.whole.specs.Laws.{whole-rules, rules-whole}
+use Rattle.passes.specs.Order.{Key, keyOf, down, MarkedKey}
+use Rattle.passes.specs.Passes.{Passed, took, met-old}
+use Rattle.passes.specs.Choice.{turned-down, chosen, isB, forwardOf, backwardOf, withBackward, withForward, choice, of-b, of-other, Accepted}
+use Rattle.passes.proofs.OrderLaws.{down-length, down-members, down-distinct}
+use Rattle.passes.proofs.Taken.{Taken}
+use Rattle.passes.proofs.Accepted.{forward-taken, backward-taken}
+use Rattle.refp.specs.Lists.{refused, counted, listed, settled, isI, listsWhole, lists}
+use Rattle.refp.specs.Claims.{Asked, SomeMarked, ForwardOfB, ListsReason, not-whole, too-high, too-many-marked, none-marked, forward-meets-old, backward-meets-old, forward-empty, backward-empty, Holds, Built, ListsWhy, ListsRefusedUnchanged, ListsStayWhole, OnlyCounts, ListsBuilt}
+use Rattle.refp.proofs.Written.{TwoLists, both-long, forward-place, forward-rest, backward-place, backward-rest}
+
+-- ---- with the test of the state in front
+
+pub on-whole : (pm : EvcPm) (refp : List EvcRefP) (c : RefpCall) → whole pm ≡ true → lists pm refp c ≡ listsWhole pm refp c
+unfolding lists
+on-whole pm refp c h = rw h
+
+-- ---- the ways in which a call ends
+
+no-entry : (ks : List Key) → length ks ≡ 0 → ks ≡ []
+no-entry [] e = refl
+no-entry (k ∷ ks) e = absurd (omega arith)
+
+-- Each with its condition and what it gives.
+pub data ListsEnd (pm : EvcPm) (refp : List EvcRefP) (c : RefpCall) : RefpResult → Type 0 where
+  refuses : (why : Refusal) → ListsReason pm c why → ListsEnd pm refp c (refused why pm refp)
+  no-list : whole pm ≡ true → isI (c .«slice_type») ≡ true → ListsEnd pm refp c (counted pm refp)
+  builds : Asked pm c → (fwd bwd : List Key) → Accepted c (down (pm .pic)) fwd bwd → ListsEnd pm refp c (listed pm refp fwd bwd)
+
+module _ (pm : EvcPm) (refp : List EvcRefP) (c : RefpCall) where
+  abbrev order : List Key
+  order = down (pm .pic)
+
+  module _ (m : SomeMarked pm c) where
+    few : length order ≤ listPlaces
+    few = let h = m .at-most in let e = down-length (pm .pic) in omega arith
+
+    some : length order ≡ 0 → ⊥
+    some z = m .some (sym (down-length (pm .pic)) ∙ z)
+
+    module _ (fwd : List Key) (e : forwardOf c order ≡ took fwd) (n : length fwd ≡ 0 → ⊥) where
+      backward-ends : isB (c .«slice_type») ≡ true → (q : Passed) → backwardOf c order ≡ q → ListsEnd pm refp c (settled pm refp (withBackward fwd q))
+      backward-ends b met-old q = refuses Refusal.OldReference (backward-meets-old (record { marked = m; is-b = b; fwd = fwd; list-is = e; has-entry = n }) q)
+      backward-ends b (took bwd) q = pick (eqb (length bwd) 0) refl
+        where
+          pick : (z : Bool) → eqb (length bwd) 0 ≡ z → ListsEnd pm refp c (settled pm refp (cond z (turned-down Refusal.BackwardListEmpty) (chosen fwd bwd)))
+          pick true z =
+              refuses Refusal.BackwardListEmpty
+              (backward-empty (record { marked = m; is-b = b; fwd = fwd; list-is = e; has-entry = n }) (q ∙ ap took (no-entry bwd (eqb-true (length bwd) 0 z))))
+          pick false z =
+              builds (m .asked) fwd bwd
+              (record { at-most = few; some = some; forward-is = e; forward-some = n; backward-is = of-b b q (eqb-false (length bwd) 0 z) })
+
+      forward-ends : (b : Bool) → isB (c .«slice_type») ≡ b → ListsEnd pm refp c (settled pm refp (cond b (withBackward fwd (backwardOf c order)) (chosen fwd [])))
+      forward-ends true b = backward-ends b (backwardOf c order) refl
+      forward-ends false b =
+          builds (m .asked) fwd [] (record { at-most = few; some = some; forward-is = e; forward-some = n; backward-is = of-other b refl })
+
+    passes-end : (p : Passed) → forwardOf c order ≡ p → ListsEnd pm refp c (settled pm refp (withForward (isB (c .«slice_type»)) (backwardOf c order) p))
+    passes-end met-old e = refuses Refusal.OldReference (forward-meets-old m e)
+    passes-end (took fwd) e = pick (eqb (length fwd) 0) refl
+      where
+        pick : (z : Bool) → eqb (length fwd) 0 ≡ z
+            → ListsEnd pm refp c (settled pm refp (cond z (turned-down Refusal.ForwardListEmpty) (cond (isB (c .«slice_type»)) (withBackward fwd (backwardOf c order)) (chosen fwd []))))
+        pick true z = refuses Refusal.ForwardListEmpty (forward-empty m (e ∙ ap took (no-entry fwd (eqb-true (length fwd) 0 z))))
+        pick false z = forward-ends fwd e (eqb-false (length fwd) 0 z) (isB (c .«slice_type»)) refl
+
+  choice-ends : Asked pm c → ListsEnd pm refp c (settled pm refp (choice c order))
+  unfolding choice
+  choice-ends a = pick (ltb listPlaces (length order)) refl (eqb (length order) 0) refl
+    where
+      marked-length : length order ≡ count isMarked (pm .pic)
+      marked-length = down-length (pm .pic)
+
+      pick : (m : Bool) → ltb listPlaces (length order) ≡ m → (z : Bool) → eqb (length order) 0 ≡ z
+          → ListsEnd pm refp c (settled pm refp (cond m (turned-down Refusal.TooManyReferences)
+          (cond z (turned-down Refusal.NoReferences) (withForward (isB (c .«slice_type»)) (backwardOf c order) (forwardOf c order)))))
+      pick true m z n = refuses Refusal.TooManyReferences (too-many-marked a (let h = ltb-true listPlaces (length order) m in let e = marked-length in omega arith))
+      pick false m true n = refuses Refusal.NoReferences (none-marked a (sym marked-length ∙ eqb-true (length order) 0 n))
+      pick false m false n =
+          passes-end
+          (record {
+            asked = a;
+            at-most = (let h = ltb-false listPlaces (length order) m in let e = marked-length in omega arith);
+            some = λ z. eqb-false (length order) 0 n (marked-length ∙ z);
+          })
+          (forwardOf c order) refl
+
+  pub lists-end : ListsEnd pm refp c (lists pm refp c)
+  unfolding lists listsWhole
+  lists-end = pick (whole pm) refl (ltb highestPoc (c .poc)) refl (isI (c .«slice_type»)) refl
+    where
+      pick : (w : Bool) → whole pm ≡ w → (h : Bool) → ltb highestPoc (c .poc) ≡ h → (i : Bool) → isI (c .«slice_type») ≡ i
+          → ListsEnd pm refp c (cond (not w) (refused Refusal.StateNotWhole pm refp)
+          (cond h (refused Refusal.NumberTooHigh pm refp) (cond i (counted pm refp) (settled pm refp (choice c order)))))
+      pick false w h e i f = refuses Refusal.StateNotWhole (not-whole w)
+      pick true w true e i f = refuses Refusal.NumberTooHigh (too-high w (ltb-true highestPoc (c .poc) e))
+      pick true w false e true f = no-list w f
+      pick true w false e false f = choice-ends (record { is-whole = w; number-fits = ltb-false highestPoc (c .poc) e; not-i = f })
+
+  -- ---- from the condition to its number
+
+  asked-answer : Asked pm c → lists pm refp c ≡ settled pm refp (choice c order)
+  unfolding lists listsWhole
+  asked-answer a = rw (a .is-whole, le-ltb highestPoc (c .poc) (a .number-fits), a .not-i)
+
+  marked-answer : SomeMarked pm c → lists pm refp c ≡ settled pm refp (withForward (isB (c .«slice_type»)) (backwardOf c order) (forwardOf c order))
+  unfolding choice
+  marked-answer m = asked-answer (m .asked) ∙ rw (le-ltb listPlaces (length order) (few m), ne-eqb (length order) 0 (some m))
+
+  forward-answer : (f : ForwardOfB pm c) → lists pm refp c ≡ settled pm refp (withBackward (f .fwd) (backwardOf c order))
+  forward-answer f = marked-answer (f .marked) ∙ rw (f .list-is, ne-eqb (length (f .fwd)) 0 (f .has-entry), f .is-b)
+
+  pub reason-refuses : {why : Refusal} → ListsReason pm c why → lists pm refp c ≡ refused why pm refp
+  unfolding lists listsWhole choice
+  reason-refuses (not-whole w) = rw w
+  reason-refuses (too-high w h) = rw (w, lt-ltb highestPoc (c .poc) h)
+  reason-refuses (too-many-marked a h) = asked-answer a ∙ rw (lt-ltb listPlaces (length order) (let e = down-length (pm .pic) in omega arith))
+  reason-refuses (none-marked a z) =
+      let e : length order ≡ 0 = down-length (pm .pic) ∙ z in
+      asked-answer a ∙ rw (le-ltb listPlaces (length order) (omega arith), eq-eqb (length order) 0 e)
+  reason-refuses (forward-meets-old m e) = marked-answer m ∙ rw e
+  reason-refuses (backward-meets-old f e) = forward-answer f ∙ rw e
+  reason-refuses (forward-empty m e) = marked-answer m ∙ rw e
+  reason-refuses (backward-empty f e) = forward-answer f ∙ rw e
+
+pub lists-why : ListsWhy
+lists-why pm refp c why = (because (lists-end pm refp c), λ r. ap (λ (x : RefpResult). x .answer) (reason-refuses pm refp c r))
+  where
+    because : {r : RefpResult} → ListsEnd pm refp c r → r .answer ≡ Answer.Refused why → ListsReason pm c why
+    because (refuses other k) e = let q : other ≡ why = cc in subst (ListsReason pm c) q k
+    because (no-list w i) e = let z : _≡_ {A = ℕ} 0 1 = cc in absurd (omega arith)
+    because (builds a fwd bwd k) e = let z : _≡_ {A = ℕ} 0 1 = cc in absurd (omega arith)
+
+-- ---- the state
+
+pub lists-refused-unchanged : ListsRefusedUnchanged
+lists-refused-unchanged pm refp c why a = reason-refuses pm refp c (lists-why pm refp c why .0 a)
+
+pub only-counts : OnlyCounts
+only-counts pm refp c = pick (lists-end pm refp c)
+  where
+    pick : {r : RefpResult} → ListsEnd pm refp c r → r .pm ≡ withCounts pm (r .pm .«num_refp_0») (r .pm .«num_refp_1»)
+    pick (refuses why k) = refl
+    pick (no-list w i) = refl
+    pick (builds a fwd bwd k) = refl
+
+counts-whole : (pm : EvcPm) (f b : ℕ) → whole pm ≡ true → f ≤ listPlaces → b ≤ listPlaces → whole (withCounts pm f b) ≡ true
+counts-whole pm f b h u v =
+    let w = whole-rules pm h in
+    rules-whole (withCounts pm f b)
+    (record {
+      store-size = w .store-size;
+      reference-limit = w .reference-limit;
+      forward-count = u;
+      backward-count = v;
+      size-matches = w .size-matches;
+      references-match = w .references-match;
+      empty-zero = w .empty-zero;
+      buffers-below = w .buffers-below;
+      buffers-differ = w .buffers-differ;
+      numbers-fit = w .numbers-fit;
+    })
+
+pub lists-stay-whole : ListsStayWhole
+lists-stay-whole pm refp c h = pick (lists-end pm refp c)
+  where
+    pick : {r : RefpResult} → ListsEnd pm refp c r → whole (r .pm) ≡ true
+    pick (refuses why k) = h
+    pick (no-list w i) = h
+    pick (builds a fwd bwd k) =
+        let n = k .at-most in
+        let f = forward-taken c (down (pm .pic)) fwd bwd k .few in
+        let b = backward-taken c (down (pm .pic)) fwd bwd k .few in
+        counts-whole pm (length fwd) (length bwd) h (omega arith) (omega arith)
+
+-- ---- the lists
+
+-- A slot tells the key of the picture that stands marked there.
+same-slot : (xs : List Slot) (k h : Key) → MarkedKey xs k → MarkedKey xs h → k .slot ≡ h .slot → k ≡ h
+same-slot xs k h a b e = a .key ∙ (λ i. keyOf (e i) (getD xs (e i) noSlot)) ∙ sym (b .key)
+
+taken-holds : (pm : EvcPm) (c : RefpCall) (ks : List Key) → length (down (pm .pic)) ≤ listPlaces → Taken (c .«max_num_ref_pics») (down (pm .pic)) ks → Holds pm c ks
+taken-holds pm c ks n t = record {
+  marked = is-marked;
+  each-once = distinct-map (λ (k : Key). k .slot) ks (λ k h m o e. same-slot (pm .pic) k h (is-marked k m) (is-marked h o) e) (t .once (down-distinct (pm .pic)));
+  within-limit = t .limited;
+  within-list = (let f = t .few in omega arith);
+}
+  where
+    is-marked : (k : Key) → List·Memᴰ k ks → MarkedKey (pm .pic) k
+    is-marked k m = down-members (pm .pic) k .0 (t .members k m)
+
+built : (pm : EvcPm) (refp : List EvcRefP) (c : RefpCall) (fwd bwd : List Key) → length refp ≡ listPlaces + listPlaces → Accepted c (down (pm .pic)) fwd bwd
+    → Built pm refp c (listed pm refp fwd bwd)
+built pm refp c fwd bwd n a =
+    let f = taken-holds pm c fwd (a .at-most) (forward-taken c (down (pm .pic)) fwd bwd a) in
+    let b = taken-holds pm c bwd (a .at-most) (backward-taken c (down (pm .pic)) fwd bwd a) in
+    let t : TwoLists refp fwd bwd = record { refp-long = n; forward-few = f .within-list; backward-few = b .within-list } in
+    record {
+      fwd = fwd;
+      bwd = bwd;
+      of-passes = a;
+      forward-holds = f;
+      backward-holds = b;
+      answer-shows = refl;
+      forward-count = refl;
+      backward-count = refl;
+      forward-entry = forward-place (pm .pic) refp fwd bwd t;
+      forward-behind = forward-rest (pm .pic) refp fwd bwd t;
+      backward-entry = backward-place (pm .pic) refp fwd bwd t;
+      backward-behind = backward-rest (pm .pic) refp fwd bwd t;
+      refp-long = both-long (pm .pic) refp fwd bwd t;
+    }
+
+pub lists-built : ListsBuilt
+lists-built pm refp c f b n i a = pick (lists-end pm refp c) a
+  where
+    pick : {r : RefpResult} → ListsEnd pm refp c r → r .answer ≡ Answer.Counts f b → Built pm refp c r
+    pick (refuses why k) e = let z : _≡_ {A = ℕ} 0 1 = cc in absurd (omega arith)
+    pick (no-list w t) e = absurd (Bool.true≢false (sym t ∙ i))
+    pick (builds w fwd bwd k) e = built pm refp c fwd bwd n k

@@ -1,0 +1,4 @@
+pub mod Run
+pub mod Partial
+pub mod Session
+pub mod Claims
