@@ -1,7 +1,7 @@
 -- What each call does to slots and lease, gathered here for the proofs of this crate: they rest on these facts alone.
 -- Slots are compared by how many pass a test; a test that does not read the marks sees nothing of marking.
 -- Assumes nothing.
-use Prim.Native.Nat.{ℕ, _+_}
+use Prim.Native.Nat.{ℕ, _+_, _<_}
 use mathlib.Core.Path.{_≡_, refl, ap, _∙_}
 use mathlib.Core.Bool.{Bool, true, false}
 use mathlib.Core.List.{List, List·Memᴰ}
@@ -11,29 +11,29 @@ use lib.ListN.{length, getD, set}
 use mir.Val.{boolByte}
 use Rattle.seq.specs.Lists.{count, lowest, removeAt}
 use Rattle.seq.specs.All.{and-left}
-use Rattle.seq.specs.Lowest.{lowest-passes}
+use Rattle.seq.specs.Lowest.{lowest-passes, any-found}
 use Rattle.seq.specs.Changes.{getD-mem, remove-reordered, count-last}
 use Rattle.seq.specs.Tallies.{count-set}
 use Rattle.def.specs.declared.{Slot.Slot, EvcPm.EvcPm, EvcRefP.EvcRefP, PutCall.PutCall, RefpCall.RefpCall, PmResult.PmResult, Answer.Answer, Refusal.Refusal}
 use Rattle.def.specs.Refusals.{refusalNumber}
 use Rattle.def.specs.State.{slots, newPic, emptySlot, noSlot, held, isWanted, isIdle, unmarked, handedOver}
-use Rattle.whole.specs.Whole.{whole, heldBuffers}
+use Rattle.whole.specs.Whole.{heldBuffers}
 use Rattle.refp.specs.Lists.{lists}
-use Rattle.refp.specs.ListTheorems.{on-whole, on-other, only-counts}
+use Rattle.refp.proofs.ListLaws.{only-counts}
 use Rattle.picman.specs.Get.{get}
-use Rattle.picman.specs.GetLaws as get-laws
-use Rattle.picman.specs.GetKeeps.{fresh-not-held}
+use Rattle.picman.proofs.GetLaws as get-laws
+use Rattle.picman.proofs.GetKeeps.{fresh-not-held}
 use Rattle.picman.specs.Put.{put, remarked, listed, taken, placeFor}
-use Rattle.picman.specs.PutLaws as put-laws
-use Rattle.picman.specs.Keeps.{remarks, remarked-whole, remarked-size, remarked-lease}
-use Rattle.picman.specs.Places.{place-empty}
+use Rattle.picman.proofs.PutLaws as put-laws
+use Rattle.picman.proofs.Keeps.{remarks, remarked-whole, remarked-size, remarked-lease}
+use Rattle.picman.proofs.Places.{place-empty}
 use Rattle.picman.specs.Out.{out, isDue}
-use Rattle.picman.specs.OutCases.{dueSlot}
-use Rattle.picman.specs.OutLaws as out-laws
+use Rattle.picman.proofs.OutCases.{dueSlot, due-in}
+use Rattle.picman.proofs.OutLaws as out-laws
 use Rattle.picman.specs.Init.{init}
-use Rattle.picman.specs.InitLaws as init-laws
+use Rattle.picman.proofs.InitLaws as init-laws
 use Rattle.line.specs.Answers.{replyOf}
-use Rattle.history.specs.Pictures.{contentOf, isDone}
+use Rattle.history.specs.Pictures.{Content, contentOf, isDone}
 
 -- ---- slots by counts
 
@@ -87,47 +87,53 @@ get-acts pm size = pick (get-laws.gets pm)
     pick (get-laws.leased w l) = turned-down _
     pick (get-laws.idle w l h) =
         let i = lowest isIdle (pm .pic) in
+        let found : i < length (pm .pic) = any-found isIdle (pm .pic) h in
         let taken = getD (pm .pic) i noSlot in
         let left = removeAt emptySlot i (pm .pic) in
         let swapped : Swapped taken emptySlot (pm .pic) left =
-        λ p blind. omega (arith, remove-reordered noSlot emptySlot i (pm .pic) (omega arith) p, count-last p left taken, count-last p (pm .pic) emptySlot) in
-        took-idle taken (lowest-passes noSlot isIdle (pm .pic) (omega arith)) (getD-mem noSlot (pm .pic) i (omega arith)) l refl swapped
+        λ p blind. omega (arith, remove-reordered noSlot emptySlot i (pm .pic) found p, count-last p left taken, count-last p (pm .pic) emptySlot) in
+        took-idle taken (lowest-passes noSlot isIdle (pm .pic) found) (getD-mem noSlot (pm .pic) i found) l refl swapped
     pick (get-laws.full w l h f) = turned-down _
     pick (get-laws.made w l h f) = made-new _ (fresh-not-held pm w size l f) l refl refl
 
 -- ---- put
+
+-- the content that a put of the picture leased in x gives it
+abbrev pub returns : List EvcRefP → PutCall → EvcPm → Content
+returns refp c x =
+    record { buf = x .«pic_lease» .buf; poc = c .poc; layer = c .«temporal_id»; numbers = listed (x .«num_refp_0») refp (x .«pic_lease» .pic) }
 
 pub data PutActs (pm : EvcPm) (refp : List EvcRefP) (c : PutCall) : Answer → EvcPm → Type 0 where
   turned-down : (why : Refusal) → PutActs pm refp c (Answer.Refused why) pm
   marked-only : {q : EvcPm} → c .«has_pic» ≡ false → q .«pic_lease» ≡ pm .«pic_lease» → SameSlots (pm .pic) (q .pic) → PutActs pm refp c Answer.Done q
   stored : {q : EvcPm} {b : ℕ} (old new : Slot) → c .«has_pic» ≡ true → pm .«pic_lease» .present ≡ true → q .«pic_lease» ≡ emptySlot → old .present ≡ false
       → new .present ≡ true
-      → contentOf new ≡ record { buf = pm .«pic_lease» .buf; poc = c .poc; layer = c .«temporal_id»; numbers = listed (pm .«num_refp_0») refp (pm .«pic_lease» .pic) }
+      → contentOf new ≡ returns refp c pm
       → new .pic .«need_for_out» ≡ c .«need_for_output»
       → Swapped old new (pm .pic) (q .pic) → PutActs pm refp c (Answer.Picture b (c .poc)) q
 
 pub put-acts : (pm : EvcPm) (refp : List EvcRefP) (c : PutCall) → length (pm .pic) ≡ slots → PutActs pm refp c (put pm refp c .answer) (put pm refp c .pm)
 put-acts pm refp c size = pick (put-laws.puts pm refp c)
   where
-    pick : {r : PmResult} → put-laws.Puts pm (put-laws.numbersOf pm refp) c r → PutActs pm refp c (r .answer) (r .pm)
+    pick : {r : PmResult} → put-laws.Puts pm (remarked c pm) refp c r → PutActs pm refp c (r .answer) (r .pm)
     pick (put-laws.not-whole w) = turned-down _
     pick (put-laws.no-picture w p) = marked-only p (remarked-lease c pm w size) (remarks c pm w size .kept .as-many)
     pick (put-laws.too-high w p t) = turned-down _
     pick (put-laws.no-lease w p t l) = turned-down _
     pick (put-laws.slot-taken w p t l o) = turned-down _
-    pick (put-laws.stored w p t l o) =
+    pick (put-laws.placed w p t l o) =
         let q = remarked c pm in
-        let kept = remarks c pm w size .kept in
-        let lease = remarked-lease c pm w size in
-        let numbers = put-laws.numbersOf pm refp in
-        let place = place-empty c numbers q (remarked-whole c pm w size) (remarked-size c pm w size) (ap (λ (s : Slot). s .present) lease ∙ l) o in
+        let now = remarks c pm w size in
         let size-now = remarked-size c pm w size in
+        let lease = remarked-lease c pm w size in
+        let numbers = listed (q .«num_refp_0») refp (q .«pic_lease» .pic) in
+        let place = place-empty c numbers q (remarked-whole c pm w size) size-now (ap (λ (s : Slot). s .present) lease ∙ l) o in
         let in-store = place .0 in
         let old = getD (q .pic) (placeFor c q) noSlot in
         let new = held (taken c numbers) (q .«pic_lease» .buf) in
         let swapped : Swapped old new (pm .pic) (set (q .pic) (placeFor c q) new) =
-        λ r blind. omega (arith, count-set r noSlot (q .pic) (placeFor c q) new (omega arith), kept .as-many r blind) in
-        stored old new p l refl (place .1) refl (rw lease) refl swapped
+        λ r blind. omega (arith, count-set r noSlot (q .pic) (placeFor c q) new (omega arith), now .kept .as-many r blind) in
+        stored old new p l refl (place .1) refl (ap (returns refp c) (now .counted)) refl swapped
 
 -- ---- out
 
@@ -144,9 +150,9 @@ out-acts pm size = pick (out-laws.outs pm)
     pick (out-laws.due w h) =
         let s = getD (pm .pic) (dueSlot pm) noSlot in
         handed s
-        (and-left (isWanted s) (leb (s .pic .poc) (pm .«poc_next_output»)) (lowest-passes noSlot (isDue (pm .«poc_next_output»)) (pm .pic) (omega arith)))
+        (and-left (isWanted s) (leb (s .pic .poc) (pm .«poc_next_output»)) (lowest-passes noSlot (isDue (pm .«poc_next_output»)) (pm .pic) (due-in pm h)))
         refl
-        (λ p blind. count-set p noSlot (pm .pic) (dueSlot pm) (handedOver s) (omega arith))
+        (λ p blind. count-set p noSlot (pm .pic) (dueSlot pm) (handedOver s) (due-in pm h))
     pick (out-laws.not-yet w h a) = handed-none refl
     pick (out-laws.no-more w h a) = handed-none refl
 
@@ -172,8 +178,5 @@ pub record OnlyCounts (pm q : EvcPm) : Type 0 where
   pub lease-stays : q .«pic_lease» ≡ pm .«pic_lease»
 
 pub lists-acts : (pm : EvcPm) (refp : List EvcRefP) (c : RefpCall) → OnlyCounts pm (lists pm refp c .pm)
-lists-acts pm refp c = pick (whole pm) refl
-  where
-    pick : (b : Bool) → whole pm ≡ b → OnlyCounts pm (lists pm refp c .pm)
-    pick true w = rw (on-whole pm refp c w, only-counts pm refp c) (record { slots-stay = refl; lease-stays = refl })
-    pick false w = rw (on-other pm refp c w) (record { slots-stay = refl; lease-stays = refl })
+lists-acts pm refp c =
+    record { slots-stay = ap (λ (q : EvcPm). q .pic) (only-counts pm refp c); lease-stays = ap (λ (q : EvcPm). q .«pic_lease») (only-counts pm refp c) }

@@ -23,7 +23,7 @@ use Rattle.poc.specs.declared.{PocAnswer.PocAnswer, Derivation.Derivation}
 use Rattle.poc.specs.PictureNumber.{maxPoc, maxLog2, settled, keyPicture, otherPicture, refused, badRecord, nextOffset, nextPrevious, offsetFrom, number, recordOf, derive}
 use Rattle.poc.specs.Distance as poc
 use Rattle.poc.specs.Distance.{run, accepted, numberOf}
-use Rattle.poc.specs.Clip.{clip-rule}
+use Rattle.poc.proofs.Clip.{clip-rule}
 use Rattle.line.specs.declared.{Call.Call, Line.Line}
 use Rattle.machine.specs.declared.Machine.{Machine}
 use Rattle.machine.specs.Step.{newMachine, derivedReply, step, stepLine}
@@ -129,13 +129,13 @@ same-word r cs {s} m = signed-of-complement (numberOf s) (of-run r cs (mem-selec
 -- ---- the claims
 
 pub derived-differ : DerivedDiffer
-derived-differ L lines clip =
+derived-differ lines clip =
     let r = newMachine .poc in
     let cs = derivations lines in
     subst (λ (l : List ℕ). Distinct l) (sym (derived-shown newMachine lines))
-    (distinct-by numberOf wordOf (accepted r cs) (λ a b m n e. sym (same-word r cs m) ∙ ap signedOf e ∙ same-word r cs n) (clip-rule L r cs clip))
+    (distinct-by numberOf wordOf (accepted r cs) (λ a b m n e. sym (same-word r cs m) ∙ ap signedOf e ∙ same-word r cs n) (clip-rule r cs clip))
 
 pub clip-files-differ : ClipFilesDiffer
-clip-files-differ L lines clip few =
+clip-files-differ lines clip few =
     let ts = turns newMachine lines in
-    files-differ lines (fewer-distinct (derivedNumbers ts) (putNumbers ts) few (derived-differ L lines clip))
+    files-differ lines (fewer-distinct (derivedNumbers ts) (putNumbers ts) few (derived-differ lines clip))

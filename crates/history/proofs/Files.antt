@@ -18,8 +18,10 @@ use Rattle.line.specs.declared.{Call.Call, Line.Line, Reply.Reply}
 use Rattle.line.specs.{Calls.readLine, Answers.answerLine, Answers.replyOf}
 use Rattle.machine.specs.declared.Machine.{Machine}
 use Rattle.machine.specs.Step.{newMachine, flag, putCallOf, refpCallOf, step, stepLine}
-use Rattle.machine.specs.Run.{linesFrom, answersTo, program}
-use Rattle.machine.specs.EveryCall.{Sound, line-sound, new-sound}
+use Rattle.run.specs.Run.{answersTo, program}
+use Rattle.line.specs.Lines.{linesFrom}
+use Rattle.machine.specs.Claims.{Sound}
+use Rattle.machine.proofs.EveryCall.{line-sound, new-sound}
 use Rattle.history.specs.Files.{Turn, turns, leaves, ProgramShows, ifSo, putNumber, outNumber, putNumbers, outNumbers, waiting, OnePictureOneFile, FilesDiffer}
 use Rattle.history.specs.Pictures.{Content}
 use Rattle.history.proofs.Calls as acts

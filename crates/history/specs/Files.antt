@@ -16,7 +16,8 @@ use Rattle.line.specs.Calls.{readLine}
 use Rattle.line.specs.Answers.{answerLine}
 use Rattle.machine.specs.declared.Machine.{Machine}
 use Rattle.machine.specs.Step.{newMachine, putCallOf, stepLine}
-use Rattle.machine.specs.Run.{linesFrom, program}
+use Rattle.run.specs.Run.{program}
+use Rattle.line.specs.Lines.{linesFrom}
 use Rattle.history.specs.Pictures.{isDone}
 
 -- A line of a run, good or bad, with the reply that the program shows for it.
@@ -114,11 +115,11 @@ derivedNumbers ts = flatMap (λ (t : Turn). derivedNumber (t .line) (t .reply)) 
 -- Where the derivations of a run are those of a clip, the numbers that their replies show all differ.
 abbrev pub DerivedDiffer : Type 0
 DerivedDiffer =
-    (L : ℕ) (lines : List Line) → Clip L (newMachine .poc) (derivations lines) → Distinct (derivedNumbers (turns newMachine lines))
+    (lines : List Line) → Clip (newMachine .poc) (derivations lines) → Distinct (derivedNumbers (turns newMachine lines))
 
 -- And where each number is put and wanted at most as often as the derivations of a clip gave it, no number is handed over twice.
 abbrev pub ClipFilesDiffer : Type 0
 ClipFilesDiffer =
-    (L : ℕ) (lines : List Line) → Clip L (newMachine .poc) (derivations lines)
+    (lines : List Line) → Clip (newMachine .poc) (derivations lines)
     → ((n : ℕ) → count (eqb n) (putNumbers (turns newMachine lines)) ≤ count (eqb n) (derivedNumbers (turns newMachine lines)))
     → Distinct (outNumbers (turns newMachine lines))
