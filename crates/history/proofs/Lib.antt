@@ -1,0 +1,5 @@
+pub mod Counting
+pub mod Calls
+pub mod Pictures
+pub mod Files
+pub mod Derived

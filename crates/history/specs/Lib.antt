@@ -1,0 +1,2 @@
+pub mod Pictures
+pub mod Files
