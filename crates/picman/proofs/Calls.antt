@@ -4,7 +4,7 @@ use Prim.Native.Nat.{ℕ}
 use mathlib.Core.Path.{_≡_, refl, sym, subst}
 use mathlib.Core.List.{List}
 use native.Mathlib.Omega.{arith}
-use Rattle.def.specs.declared.{EvcRefP.EvcRefP, PmResult.PmResult, Answer.Answer, Refusal.Refusal}
+use Rattle.def.specs.declared.{PmResult.PmResult, Answer.Answer, Refusal.Refusal}
 use Rattle.keys.specs.declared.{Rest.Rest, Called.Called}
 use Rattle.keys.specs.Keys.{listsIn, stands, Sized, Comes}
 use Rattle.picman.specs.Get.{refused}
@@ -13,9 +13,6 @@ use Rattle.picman.specs.OnKeys.{turnedDown, Calls}
 pub calls-by : {r : Called} {keys rows : List ℕ} {rest : Rest} {keys′ rows′ : List ℕ} {a b : PmResult} → a ≡ b
     → Calls r keys rows rest keys′ rows′ b → Calls r keys rows rest keys′ rows′ a
 calls-by {r} {keys} {rows} {rest} {keys′} {rows′} e c = subst (λ (x : PmResult). Calls r keys rows rest keys′ rows′ x) (sym e) c
-
-pub comes-by : {r : Called} {keys rows : List ℕ} {lists : List EvcRefP} {a b : PmResult} → a ≡ b → Comes r keys rows lists b → Comes r keys rows lists a
-comes-by {r} {keys} {rows} {lists} e c = subst (λ (x : PmResult). Comes r keys rows lists x) (sym e) c
 
 pub calls-refused : (why : Refusal) (keys rows : List ℕ) (rest : Rest) → Sized keys rows
     → Calls (turnedDown why rest) keys rows rest keys rows (refused why (stands keys rows rest))

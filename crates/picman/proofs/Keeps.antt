@@ -74,10 +74,6 @@ zero-unmarked s e =
     pick false true false r d f g e = absurd (Bool.false≢true e)
     pick false false c r d f g e = absurd (Bool.false≢true e)
 
--- An empty slot stays all zero.
-pub kept-zero : {xs ys : List Slot} → Kept xs ys → all zeroIfEmpty xs ≡ true → all zeroIfEmpty ys ≡ true
-kept-zero k e = k .still zeroIfEmpty zero-unmarked e
-
 module _ (pm : EvcPm) (ys : List Slot) (k : Kept (pm .pic) ys) where
   -- each buffer number is held as often
   pub kept-held : (size refs : ℕ) → SameNumbers (heldBuffers pm) (heldBuffers (withStore pm ys (pm .«pic_lease») size refs))

@@ -148,10 +148,3 @@ module _ {A : Type 0} (p : A → Bool) where
       by : (lowest p xs < length xs) ⊎ (length xs ≤ lowest p xs) → lowest p xs < length xs
       by (inl h) = h
       by (inr h) = absurd (Bool.false≢true (sym (none-at-all xs h) ∙ e))
-
-  pub none-found : (xs : List A) → any p xs ≡ false → length xs ≤ lowest p xs
-  none-found xs e = by (lt-or-ge (lowest p xs) (length xs))
-    where
-      by : (lowest p xs < length xs) ⊎ (length xs ≤ lowest p xs) → length xs ≤ lowest p xs
-      by (inl h) = absurd (Bool.false≢true (sym e ∙ found-any xs h))
-      by (inr h) = h
