@@ -2,21 +2,20 @@
 -- them where no other slot holds its buffer.
 -- Assumes nothing.
 use mathlib.Core.Path.{_≡_, refl, sym, ap, ap₂, _∙_}
-use mathlib.Core.Bool.{Bool, true, false, cond, not, _&&_, _||_, and-false}
+use mathlib.Core.Bool.{Bool, true, false, cond, _&&_}
 use mathlib.Core.Bool as Bool
-use mathlib.Core.List.{List, [], _∷_, _++_, map, List·Memᴰ, List·Memᴰ·head, List·Memᴰ·tail, List·Memᴰ·not-nil, List·Memᴰ·cases-cons, Memᴰ·cast}
-use mathlib.Core.Logic.{_⊎_, inl, inr, ⊎-elim}
-use Prim.Native.Nat.{ℕ, _*_, _<_, _≤_}
+use mathlib.Core.List.{List, [], _∷_, map, List·Memᴰ, List·Memᴰ·head, List·Memᴰ·tail, List·Memᴰ·not-nil, List·Memᴰ·cases-cons, Memᴰ·cast}
+use mathlib.Core.Logic.{_⊎_, inl, inr}
+use Prim.Native.Nat.{ℕ, _*_, _<_}
 use native.Mathlib.Omega.{arith}
-use lib.Dec.{eqb}
 use lib.ListN.{length, replicate}
 use lib.Seq.{paste, length-paste}
-use borrow.Author.Tests.{ltb-true, lt-ltb, not-false}
-use Rattle.seq.specs.Lists.{all, select, Distinct}
-use Rattle.seq.specs.All.{and-left, and-right, and-both}
+use borrow.Author.Tests.{ltb-true}
+use Rattle.seq.specs.Lists.{select, Distinct}
+use Rattle.seq.specs.All.{and-left, and-right}
 use Rattle.seq.specs.Members.{mem-map, select-mem, holds-tail}
 use Rattle.def.specs.State.{slots, listPlaces, emptySlot, held, isPresent, bufferOf}
-use Rattle.def.specs.declared.{Slot.Slot, EvcPic.EvcPic}
+use Rattle.def.specs.declared.{Slot.Slot}
 use Rattle.keys.specs.Keys.{keyMade, rowLength, rowsLength, rowAt, slotAt, listsIn}
 use Rattle.keys.proofs.RowLaws.{row-other, row-whole}
 use Rattle.keys.proofs.KeyLaws.{slot-made}

@@ -3,13 +3,12 @@
 use mathlib.Core.Path.{_≡_, refl}
 use mathlib.Core.Bool.{Bool, true, false}
 use mathlib.Core.List.{List, [], _∷_, List·Memᴰ, List·Memᴰ·head, Memᴰ·append-left, Memᴰ·append-right}
-use Prim.Native.Nat.{ℕ, _<_, _≤_}
+use Prim.Native.Nat.{ℕ, _≤_}
 use native.Mathlib.Omega.{arith}
 use lib.ListN.{length, getD}
 use Rattle.seq.specs.Members.{mem-map}
 use Rattle.seq.specs.Changes.{getD-mem}
 use Rattle.def.specs.State.{slots, highestPoc}
-use Rattle.def.specs.declared.{Slot.Slot}
 use Rattle.keys.specs.declared.{Rest.Rest}
 use Rattle.keys.specs.Keys.{keyPresent, keyNumber, slotAt, stands}
 use Rattle.whole.specs.Whole.{whole, places}

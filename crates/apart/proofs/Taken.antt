@@ -11,9 +11,9 @@ use lib.Dec.{ltb}
 use native.Mathlib.Numerals.{add-one}
 use lib.ListN.{length, getD, take, drop, set, length-set, length-map, drop-of-length-le}
 use lib.Seq.{take-all, take-suc}
-use borrow.Author.Tests.{lt-ltb, not-false}
-use Rattle.seq.specs.Lists.{all, count, select, allDiffer}
-use Rattle.seq.specs.All.{and-left, and-right, and-both, all-true, all-holds}
+use borrow.Author.Tests.{lt-ltb}
+use Rattle.seq.specs.Lists.{all, count, select}
+use Rattle.seq.specs.All.{and-left, and-both, all-true, all-holds}
 use Rattle.seq.specs.Members.{mem-map, mem-unmap, select-mem, holds-tail}
 use Rattle.seq.specs.Commute.{map-append, map-count, map-select, map-map, fill-turn}
 use Rattle.seq.specs.Walks.{drop-step}
@@ -21,7 +21,7 @@ use Rattle.def.specs.State.{slots, noSlot, isPresent, isMarked, bufferOf}
 use Rattle.def.specs.declared.{Slot.Slot, EvcPm.EvcPm}
 use Rattle.keys.specs.declared.{Rest.Rest}
 use Rattle.keys.specs.Keys.{rowsLength, slotAt, listsIn, stands, Sized}
-use Rattle.whole.specs.Whole.{whole, places, heldBuffers, buffersOf, zeroIfEmpty, pocFits}
+use Rattle.whole.specs.Whole.{whole, places, buffersOf, zeroIfEmpty, pocFits}
 use Rattle.whole.specs.Laws.{rule, whole-rules}
 use Rattle.apart.specs.Apart.{slotFits, bufferFits, keyFor, rowsWith, rowsOf, Shaped, TakenSlot, TakenSlots, TakenApart}
 use Rattle.apart.proofs.ApartLaws.{bare, bare-read, key-stray, key-none, with-long, rows-long, rows-lists, slots-read}

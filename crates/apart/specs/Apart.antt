@@ -7,10 +7,10 @@ use mathlib.Core.List.{List, [], _∷_, map, List·Memᴰ}
 use lib.Dec.{ltb}
 use lib.ListN.{length, getD}
 use lib.Seq.{paste}
-use Rattle.def.specs.State.{slots, listPlaces, highestPoc}
+use Rattle.def.specs.State.{slots, highestPoc}
 use Rattle.def.specs.declared.{Slot.Slot, EvcPm.EvcPm, EvcRefP.EvcRefP}
 use Rattle.keys.specs.declared.{Rest.Rest}
-use Rattle.keys.specs.Keys.{keyNumber, keyMade, rowLength, rowsLength, listsIn, stands, Sized}
+use Rattle.keys.specs.Keys.{keyNumber, keyMade, rowLength, listsIn, stands, Sized}
 use Rattle.whole.specs.Whole.{whole, zeroIfEmpty, pocFits}
 
 -- A picture's buffer number is one of 27.

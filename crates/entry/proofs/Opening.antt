@@ -1,18 +1,18 @@
 -- A state that came and was opened: it is handed back where it is not whole, and else the core has worked on it.
 -- Assumes nothing.
 use mathlib.Core.Path.{_≡_, refl, sym, ap, ap₂, _∙_}
-use mathlib.Core.Bool.{Bool, true, false}
+use mathlib.Core.Bool.{true, false}
 use mathlib.Core.List.{List}
 use Prim.Native.Nat.{ℕ}
 use lib.ListN.{length, length-map}
 use Rattle.def.specs.State.{slots}
-use Rattle.def.specs.declared.{EvcPm.EvcPm, EvcRefP.EvcRefP, RefpCall.RefpCall, RefpResult.RefpResult, CopyResult.CopyResult, Answer.Answer, Refusal.Refusal}
+use Rattle.def.specs.declared.{EvcPm.EvcPm, EvcRefP.EvcRefP, RefpCall.RefpCall, RefpResult.RefpResult, Answer.Answer, Refusal.Refusal}
 use Rattle.keys.specs.declared.{Called.Called}
-use Rattle.keys.specs.Keys.{slotAt, listsIn, stands, Sized, ComesLists}
+use Rattle.keys.specs.Keys.{slotAt, listsIn, stands, ComesLists}
 use Rattle.whole.specs.Whole.{whole}
 use Rattle.refp.specs.Lists.{refused, lists, listsWhole}
 use Rattle.refp.specs.Copy.{copy}
-use Rattle.refp.specs.Running.{entryWith, CopyCame}
+use Rattle.refp.specs.Running.{CopyCame}
 use Rattle.refp.proofs.ListLaws.{lists-stay-whole}
 use Rattle.entry.specs.declared.{Opened.Opened}
 use Rattle.entry.specs.Entry.{Opens}

@@ -10,7 +10,7 @@ use native.Mathlib.Nat.{div-div-eq-div-mul, div-add-mod', zero-mul, zero-div}
 use native.Mathlib.Omega.{arith}
 use lib.Dec.{leb, ltb, eqb}
 use lib.ListN.{replicate}
-use borrow.Author.Tests.{ltb-true, lt-ltb, le-ltb, le-leb, lt-leb, eqb-true, eqb-false, eq-eqb, ne-eqb, not-true}
+use borrow.Author.Tests.{lt-ltb, le-ltb, le-leb, lt-leb, eqb-true, eqb-false, not-true}
 use Rattle.seq.specs.Numbers.{lt-or-ge}
 use Rattle.seq.specs.Lists.{all, count, select, allDiffer}
 use Rattle.seq.specs.All.{all-holds}
@@ -18,7 +18,7 @@ use Rattle.seq.specs.Commute.{map-append, map-count}
 use Rattle.def.specs.declared.Slot.{Slot}
 use Rattle.def.specs.State.{slots, listPlaces, highestPoc, isPresent, isMarked}
 use Rattle.keys.specs.declared.Rest.{Rest}
-use Rattle.keys.specs.Keys.{keyPresent, keyMarked, keyRef, keyOut, keyBuffer, keyLayer, keyNumber, rowAt, slotAt, stands}
+use Rattle.keys.specs.Keys.{keyPresent, keyMarked, keyRef, keyOut, keyBuffer, keyLayer, keyNumber, slotAt, stands}
 use Rattle.keys.proofs.KeyLaws.{buffers-same}
 use Rattle.whole.specs.declared.Tally.{Tally}
 use Rattle.whole.specs.Whole.{whole, places, heldBuffers, zeroIfEmpty, pocFits}

@@ -3,7 +3,7 @@
 use mathlib.Core.Path.{_≡_, refl, sym, ap, ap₂, _∙_}
 use mathlib.Core.Bool.{Bool, true, false, cond, not, _&&_, _||_, and-assoc, and-true, and-false}
 use mathlib.Core.Bool as Bool
-use mathlib.Core.List.{List, [], _∷_, _++_, map}
+use mathlib.Core.List.{List, [], _∷_, map}
 use mathlib.Core.Logic.{_⊎_, inl, inr}
 use Prim.Native.Nat.{ℕ, zero, suc, _+_, _-_, _*_, _/_, _%_, _^_, _≤_, _<_, max}
 use native.Mathlib.Nat.{one-mul, zero-mul, pow-suc, div-eq-of-lt, mul-mod-left, mul-div-cancel, max-le, max-zero, le-max-right}
@@ -14,7 +14,7 @@ use lib.Dec.{eqb, ltb, lit<}
 use lib.Arith.{digits-mod}
 use lib.Pow.{pow-lt, pow-mono, pow-pos, shl-exact, shr-shr}
 use mir.Val.{boolByte}
-use borrow.Author.Tests.{ltb-true, ltb-false, lt-ltb, le-ltb, eqb-true, eqb-false, eq-eqb, ne-eqb}
+use borrow.Author.Tests.{lt-ltb, le-ltb, eqb-true, eqb-false, eq-eqb, ne-eqb}
 use lib.ListN.{length, getD, drop, drop-of-length-le}
 use Rattle.seq.specs.Numbers.{lt-or-ge}
 use Rattle.seq.specs.Walks.{drop-step}

@@ -1,5 +1,5 @@
 -- `apart::slot_of` meets its contract: an empty slot's numbers are zero, a picture's are its row. Assumes nothing.
-use mathlib.Core.Path.{_≡_, refl, sym, _∙_}
+use mathlib.Core.Path.{refl, sym, _∙_}
 use native.Mathlib.Omega.{arith}
 use borrow.Author.Needs.{needs}
 use borrow.Author.Tests.{not-true, not-false}

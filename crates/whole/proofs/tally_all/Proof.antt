@@ -2,7 +2,7 @@
 use mathlib.Core.Path.{_≡_, refl}
 use Prim.Native.Nat.{_+_, _≤_, _-_, _%_}
 use native.Mathlib.Omega.{arith}
-use lib.ListN.{length, getD, drop}
+use lib.ListN.{length}
 use Rattle.def.specs.State.{slots}
 use Rattle.whole.proofs.TallyLaws.{Passing, passing-none, passing-room, passing-turn, passing-end}
 use Rattle.whole.proofs.tally_all.Statement.{statement}
