@@ -86,7 +86,7 @@ module _ {L t d : ℕ} (h : OfLayer L t (pos d)) where
   pub stays-below : (2 * (d - 2 ^ (t - 1)) + 1) * 2 ^ (L - t) < 2 ^ L
   stays-below = below _ _ _ apart negative
 
-  offset-is : signedOffset L t d ≡ negsuc (past L t d)
+  pub offset-is : signedOffset L t d ≡ negsuc (past L t d)
   offset-is = rw (lt-ltb _ _ stays-below)
 
   -- ---- step by step in `f32`

@@ -1,6 +1,7 @@
 mod Words
 mod Float
 mod Formula
+mod OffsetTable
 pub mod Settled
 pub mod Seek
 pub mod Offset

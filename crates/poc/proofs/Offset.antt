@@ -36,7 +36,7 @@ one-layer t u d ht hu a b =
     apart a b h x y = let p : 2 ^ a ≤ 2 ^ (b - 1) = pow-mono (omega arith) in omega arith
 
 -- Its offsets are those of t binary digits.
-digits : (t d : ℕ) → 1 ≤ t → Layer t d → size d ≡ t
+pub digits : (t d : ℕ) → 1 ≤ t → Layer t d → size d ≡ t
 digits t d h l = ⊎-elim (λ k. absurd (short k)) (λ k. let g = size-le d t (l .high) in omega arith) (lt-or-ge (size d) t)
   where
     short : size d < t → ⊥

@@ -34,3 +34,9 @@ pub record OfLayer (L t : ℕ) (z : ℤ) : Type 0 where
 -- What is added to the previous number: (2(d - 2^(t-1)) + 1) × 2^(L-t) - 2^L.
 abbrev pub signedOffset : ℕ → ℕ → ℕ → ℤ
 signedOffset L t d = subℕ ((2 * (d - 2 ^ (t - 1)) + 1) * 2 ^ (L - t)) (2 ^ L)
+
+-- What the table has an entry for: lengths up to 2^8, and decoding offsets that are not 0.
+pub record InTable (L d : ℕ) : Type 0 where
+  pub short : L ≤ 8
+  pub above-zero : 1 ≤ d
+  pub below : d < 2 ^ L

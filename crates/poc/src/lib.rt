@@ -1,21 +1,27 @@
 // Picture numbers: the Rust's `evc_poc_derivation` (src/util.rs).
+mod offsets;
+
 use def::DocOffset;
 use def::EvcPoc;
 use def::MAX_POC;
 use def::PocVal;
 use def::Refusal;
+use offsets::POC_OFFSETS;
 ghost use mathlib.Core.Path.{_≡_};
 ghost use Prim.Native.Nat.{_≤_};
 ghost use lib.IntN.{pos};
 ghost use Rattle.poc.specs.PictureNumber.{derive, keyPicture, otherPicture, badRecord, refused, offsetFrom, offsetOf};
 ghost use Rattle.poc.specs.Number.{accepted};
 ghost use Rattle.poc.specs.Standard.{expectedTemporalId};
-ghost use Rattle.poc.specs.Domain.{Checked, Searched, OfLayer, signedOffset};
+ghost use Rattle.poc.specs.Domain.{Checked, Searched, OfLayer, InTable, signedOffset};
 
 // The longest sub-group has 2^15 pictures, so no decoding offset is above 2^15 - 1.
 const MAX_LOG2_SUB_GOP_LENGTH: u8 = 15;
 
 const MAX_DOC_OFFSET: i32 = 32767;
+
+// Sub-groups up to 2^8 pictures have their signed offsets in a table.
+const MAX_LOG2_IN_TABLE: u8 = 8;
 
 // The new picture number, or why there is none.
 pub enum PocAnswer {
@@ -73,14 +79,34 @@ fn doc_offset_from(log2_sub_gop_length: u8, tid: u8, doc_offset: DocOffset) -> D
     DocOffset(first as i32)
 }
 
-// What is added to the previous number, for an offset of layer `tid`.
-fn poc_offset(log2_sub_gop_length: u8, tid: u8, doc_offset: DocOffset) -> i32
+// The table's signed offset. The decoding offset is never 0, so neither a row's first entry nor the table's is read.
+fn table_offset(log2_sub_gop_length: u8, doc_offset: u32) -> i16
+    requires { ⌜ InTable «log2_sub_gop_length» «doc_offset» ⌝ }
+    ensures { λ r. ⌜ r ≡ signedOffset «log2_sub_gop_length» (expectedTemporalId «doc_offset») «doc_offset» ⌝ }
+{
+    let sub_gop_length = 1u32 << log2_sub_gop_length;
+    POC_OFFSETS[(sub_gop_length + doc_offset) as usize]
+}
+
+// The signed offset in `f32`, in the Rust's order of operations.
+fn float_offset(log2_sub_gop_length: u8, tid: u8, doc_offset: DocOffset) -> i32
     requires { ⌜ OfLayer «log2_sub_gop_length» tid («doc_offset» .0) ⌝ }
     ensures { λ r. ⌜ r ≡ signedOffset «log2_sub_gop_length» tid (offsetOf («doc_offset» .0)) ⌝ }
 {
     let sub_gop_length = 1u32 << log2_sub_gop_length;
     (sub_gop_length as f32
         * ((2.0 * doc_offset.0 as f32 + 1.0) / (1u32 << tid) as f32 - 2.0)) as i32
+}
+
+// What is added to the previous number, for an offset of layer `tid`. Lengths above 256 keep the float steps.
+fn poc_offset(log2_sub_gop_length: u8, tid: u8, doc_offset: DocOffset) -> i32
+    requires { ⌜ OfLayer «log2_sub_gop_length» tid («doc_offset» .0) ⌝ }
+    ensures { λ r. ⌜ r ≡ signedOffset «log2_sub_gop_length» tid (offsetOf («doc_offset» .0)) ⌝ }
+{
+    if MAX_LOG2_IN_TABLE < log2_sub_gop_length {
+        return float_offset(log2_sub_gop_length, tid, doc_offset);
+    }
+    table_offset(log2_sub_gop_length, doc_offset.0 as u32) as i32
 }
 
 // 16: previous too high, or an offset outside 0 to 32,767.
