@@ -4,4 +4,5 @@ pub mod broken;
 pub mod calls;
 pub mod group;
 pub mod lines;
+pub mod mixes;
 pub mod states;
