@@ -40,6 +40,9 @@ pocPlace = 6395
 abbrev pub imageLength : ℕ
 imageLength = 6407
 
+abbrev pub pocWidth : ℕ
+pocWidth = 12
+
 -- ---- the bytes of each part
 
 abbrev pub flagByte : Bool → ℕ
@@ -145,13 +148,17 @@ unfoldable pub refpOf : List ℕ → List EvcRefP
 unfolding entries refpAt
 refpOf bs = rowAt (refpAt bs) refpWidth refpPlace (2 * listPlaces)
 
-unfoldable pub pocOf : List ℕ → EvcPoc
+unfoldable pub pocAt : List ℕ → ℕ → EvcPoc
 unfolding wordAt
-pocOf bs = record {
-  «poc_val» = record { 0 = signedOf (wordAt bs pocPlace) };
-  «prev_poc_val» = wordAt bs (pocPlace + 4);
-  «prev_doc_offset» = record { 0 = signedOf (wordAt bs (pocPlace + 8)) };
+pocAt bs i = record {
+  «poc_val» = record { 0 = signedOf (wordAt bs i) };
+  «prev_poc_val» = wordAt bs (i + 4);
+  «prev_doc_offset» = record { 0 = signedOf (wordAt bs (i + 8)) };
 }
+
+unfoldable pub pocOf : List ℕ → EvcPoc
+unfolding pocAt
+pocOf bs = pocAt bs pocPlace
 
 -- ---- which bytes are an image
 

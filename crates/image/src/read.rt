@@ -13,7 +13,7 @@ ghost use mathlib.Core.Path.{_≡_};
 ghost use Prim.Native.Nat.{_+_, _≤_, _<_};
 ghost use lib.ListN.{length};
 ghost use Rattle.def.specs.Word.{word, signedOf};
-ghost use Rattle.image.specs.Image.{slotWidth, refpWidth, imageLength, flagAt, wordAt, listAt, slotAt, pmOf, refpAt, refpOf, pocOf};
+ghost use Rattle.image.specs.Image.{slotWidth, refpWidth, imageLength, pocWidth, flagAt, wordAt, listAt, slotAt, pmOf, refpAt, refpOf, pocAt, pocOf};
 
 fn read_flag(image: &[u8], at: usize) -> bool
     requires { ⌜ at < length (now image) ⌝ }
@@ -144,13 +144,21 @@ pub fn read_refps(image: &[u8]) -> [EvcRefP; REFP_PLACES]
     refp
 }
 
+// A record may stand in other bytes than an image's; the caller has tested their length.
+pub fn read_poc_at(bytes: &[u8], at: usize) -> EvcPoc
+    requires { ⌜ at + pocWidth ≤ length (now bytes) ⌝ }
+    ensures { λ r. ⌜ r ≡ pocAt (now (bytes .entry)) at ⌝ }
+{
+    EvcPoc {
+        poc_val: PocVal(signed_of(read_word(bytes, at))),
+        prev_poc_val: read_word(bytes, at + 4),
+        prev_doc_offset: DocOffset(signed_of(read_word(bytes, at + 8))),
+    }
+}
+
 pub fn read_poc(image: &[u8]) -> EvcPoc
     requires { ⌜ length (now image) ≡ imageLength ⌝ }
     ensures { λ r. ⌜ r ≡ pocOf (now (image .entry)) ⌝ }
 {
-    EvcPoc {
-        poc_val: PocVal(signed_of(read_word(image, 6395))),
-        prev_poc_val: read_word(image, 6399),
-        prev_doc_offset: DocOffset(signed_of(read_word(image, 6403))),
-    }
+    read_poc_at(image, 6395)
 }

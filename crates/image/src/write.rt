@@ -14,9 +14,9 @@ ghost use lib.ListN.{length};
 ghost use Rattle.seq.specs.Stores.{Stored};
 ghost use Rattle.def.specs.State.{listPlaces};
 ghost use Rattle.def.specs.Word.{wordBytes, twosComplement};
-ghost use Rattle.image.specs.Image.{wordWidth, slotWidth, refpWidth, leasePlace, scalarsPlace, refpPlace, pocPlace, imageLength, flagByte, listBytes, slotBytes, scalarBytes, pmBytes, refpBytes, pocBytes, imageBytes};
+ghost use Rattle.image.specs.Image.{wordWidth, slotWidth, refpWidth, leasePlace, scalarsPlace, refpPlace, imageLength, pocWidth, flagByte, listBytes, slotBytes, scalarBytes, pmBytes, refpBytes, pocBytes, imageBytes};
 
-fn flag_byte(b: bool) -> u8
+pub fn flag_byte(b: bool) -> u8
     ensures { λ r. ⌜ r ≡ flagByte b ⌝ }
 {
     if b { 1 } else { 0 }
@@ -41,6 +41,14 @@ fn write_word(image: &mut [u8], at: usize, n: u32)
     image[at + 1] = (n / 65536 % 256) as u8;
     image[at + 2] = (n / 256 % 256) as u8;
     image[at + 3] = (n % 256) as u8;
+}
+
+// A signed number, which may stand in other bytes than an image's; the caller has tested their length.
+pub fn write_signed(bytes: &mut [u8], at: usize, z: i32)
+    requires { ⌜ at + wordWidth ≤ length (now bytes) ⌝ }
+    ensures { λ _. ⌜ Stored (now (bytes .entry)) at (wordBytes (twosComplement z)) wordWidth (now (bytes .exit)) ⌝ }
+{
+    write_word(bytes, at, twos_complement(z));
 }
 
 // The 21 list numbers of a picture or of a list entry.
@@ -132,15 +140,16 @@ fn write_refps(image: &mut [u8], refp: [EvcRefP; REFP_PLACES])
     }
 }
 
-fn write_poc(image: &mut [u8], poc: EvcPoc)
-    requires { ⌜ length (now image) ≡ imageLength ⌝ }
-    ensures { λ _. ⌜ Stored (now (image .entry)) pocPlace (pocBytes poc) 12 (now (image .exit)) ⌝ }
+// A record may stand in other bytes than an image's; the caller has tested their length.
+pub fn write_poc_at(bytes: &mut [u8], at: usize, poc: EvcPoc)
+    requires { ⌜ at + pocWidth ≤ length (now bytes) ⌝ }
+    ensures { λ _. ⌜ Stored (now (bytes .entry)) at (pocBytes poc) pocWidth (now (bytes .exit)) ⌝ }
 {
     let number = poc.poc_val.0;
     let offset = poc.prev_doc_offset.0;
-    write_word(image, 6395, twos_complement(number));
-    write_word(image, 6399, poc.prev_poc_val);
-    write_word(image, 6403, twos_complement(offset));
+    write_signed(bytes, at, number);
+    write_word(bytes, at + 4, poc.prev_poc_val);
+    write_signed(bytes, at + 8, offset);
 }
 
 // The whole image, whatever the bytes were before.
@@ -150,5 +159,5 @@ pub fn write_image(image: &mut [u8], pm: EvcPm, refp: [EvcRefP; REFP_PLACES], po
 {
     write_pm(image, pm);
     write_refps(image, refp);
-    write_poc(image, poc);
+    write_poc_at(image, 6395, poc);
 }
