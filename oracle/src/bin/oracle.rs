@@ -1,6 +1,6 @@
 //! The comparison: `oracle [quick] [--seed N] [--calls N] [--standin]`.
 //!
-//! `oracle answers` reads call lines and answers them by the original where it decides and by document 01
+//! `oracle plans` compares the group planner alone. `oracle answers` reads call lines and answers them by the original where it decides and by document 01
 //! elsewhere. `oracle child` is what the comparison starts to run the original alone.
 
 use oracle::call::Reply;
@@ -11,8 +11,8 @@ use oracle::original::Original;
 use oracle::ours::{self, Ours, StandIn};
 use oracle::papers::{self, whole::RULES};
 use oracle::rng::Rng;
-use oracle::runs::{exhaustive, frames, images, sequences, states, tables};
-use oracle::{children, lines, watch};
+use oracle::runs::{exhaustive, frames, images, plans, sequences, states, tables};
+use oracle::{children, lines, ours_plan, watch};
 use std::io::{self, BufRead, Write};
 use std::process::ExitCode;
 
@@ -27,6 +27,7 @@ fn main() -> ExitCode {
     let words: Vec<String> = std::env::args().skip(1).collect();
     match words.first().map(String::as_str) {
         Some("child") => ended(children::main(&words[1..])),
+        Some("plans") => ended(options(&words[1..]).and_then(|options| compare_plans(&options))),
         Some("answers") => ended(answers().map(|()| 0).map_err(|why| why.to_string())),
         _ => ended(options(&words).and_then(|options| compare(&options))),
     }
@@ -65,7 +66,7 @@ fn compare(options: &Options) -> Result<u8, String> {
     let linked = ours::linked().ok_or("libpicman_ffi.a was not there when this was built");
     let ours: Box<dyn Ours> = if options.standin { Box::new(StandIn) } else { linked? };
     println!("ours: {}", ours.name());
-    println!("the Rust: revc's picman.rs, evc_poc_derivation and depth tables, unchanged");
+    println!("the Rust: revc's picman.rs, evc_poc_derivation, decide_normal_gop and depth tables, unchanged");
     println!("compared after every call: its status, its answer and all 6,407 bytes of the image");
     println!("seed {}, about {} random calls", options.seed, options.calls);
     watch::start(options.seed);
@@ -91,6 +92,25 @@ fn compare(options: &Options) -> Result<u8, String> {
     Ok(0)
 }
 
+/// The planner alone.
+fn compare_plans(options: &Options) -> Result<u8, String> {
+    let linked = ours_plan::linked().ok_or("libpicman_ffi.a was not there when this was built");
+    let ours = if options.standin { ours_plan::stand_in } else { linked? };
+    println!("ours: {}", if options.standin { "the stand-in (NOT our library)" } else { "libpicman_ffi.a" });
+    println!("the Rust: revc's decide_normal_gop, unchanged; seed {}", options.seed);
+    watch::start(options.seed);
+    match plans::run(ours, &mut Rng::new(options.seed), options.quick) {
+        Ok(met) => {
+            println!("{met}\n0 differences");
+            Ok(0)
+        }
+        Err(Difference(why)) => {
+            println!("DIFFERENCE of seed {}:\n{why}", options.seed);
+            Ok(1)
+        }
+    }
+}
+
 fn all_runs(judge: &mut Judge, options: &Options) -> Result<(), Difference> {
     let mut rng = Rng::new(options.seed);
     let rng = &mut rng;
@@ -102,6 +122,8 @@ fn all_runs(judge: &mut Judge, options: &Options) -> Result<(), Difference> {
         "depth tables: {} places agree; of the refused ones the Rust panics on {}, holds 0xff in {}, gives a depth in {}",
         depths.accepted, depths.panics, depths.filler, depths.added
     );
+    let planner = if options.standin { ours_plan::stand_in } else { ours_plan::linked().unwrap() };
+    println!("{}", plans::run(planner, &mut rng.clone(), options.quick)?);
     tables::derivations(judge, options.quick)?;
     phase(judge, "frames, images, tables and derivations");
     exhaustive::run(judge, options.quick)?;
