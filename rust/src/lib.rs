@@ -1,7 +1,7 @@
-//! The proved picture manager: safe functions over the five of `include/picman.h`.
+//! The proved picture manager: safe functions over those of `include/picman.h`.
 //!
 //! An image holds a whole machine. Where a length or a flag byte does not fit, a function gives [`BAD`] and writes
-//! nothing; a call that is turned down, with a number from 1 to 18, leaves the image as it was.
+//! nothing; a call that is turned down, with a number from 1 to 20, leaves the image as it was.
 
 /// Bytes of an image, of an answer and of a list entry.
 pub const IMAGE: usize = 6407;
@@ -10,6 +10,9 @@ pub const ENTRY: usize = 90;
 
 /// What is given where a length or a flag byte does not fit, and for a bad call.
 pub const BAD: u8 = 18;
+
+mod lines;
+pub use lines::{answers, write_call, Answers, Read, NO_ROOM};
 
 mod library {
     extern "C" {
@@ -32,6 +35,9 @@ mod library {
         ) -> u8;
         pub fn picman_slice_depth(length: u64, position: u64) -> u8;
         pub fn picman_slice_depth_p(length: u64, position: u64) -> u8;
+        pub fn picman_read_answer(lines: *const u8, len: usize, at: u64, record: *mut u8, record_len: usize)
+            -> u8;
+        pub fn picman_write_call(fields: *const u8, fields_len: usize, target: *mut u8, target_len: usize) -> u8;
     }
 }
 

@@ -84,6 +84,7 @@ pub enum Refusal {
     BadRecord,
     BadLength,
     BadLine,
+    NoRoom,
 }
 
 pub fn refusal_number(r: Refusal) -> u8
@@ -108,6 +109,7 @@ pub fn refusal_number(r: Refusal) -> u8
         Refusal::BadRecord => 16,
         Refusal::BadLength => 17,
         Refusal::BadLine => 18,
+        Refusal::NoRoom => 20,
     }
 }
 

@@ -10,6 +10,7 @@ use Rattle.def.specs.declared.Answer.{Answer}
 use Rattle.def.specs.declared.Answer.the-variants.{Done, Picture, NotYet, NoMore, Counts, Refused}
 use Rattle.def.specs.Refusals.{refusalNumber}
 use Rattle.line.specs.declared.Reply.{Reply}
+use Rattle.line.specs.declared.answer.AnswerLine.{AnswerLine}
 use Rattle.line.specs.Hex.{digitsOf, wordBytes}
 use Rattle.line.specs.Frame.{Kind, framed}
 use Rattle.line.specs.Calls.{byteAt, wordAt}
@@ -47,6 +48,10 @@ replyIn b = cond (eqb (length b) 7) (some (reply (byteAt b 0) (byteAt b 1) (byte
 
 unfoldable pub answerKind : Kind Reply
 answerKind = record { meaning = replyIn; body = replyBytes }
+
+abbrev pub answerFor : Option Reply → AnswerLine
+answerFor (some r) = AnswerLine.Good r
+answerFor none = AnswerLine.Bad
 
 -- The sixteen digits of an answer, and its line with the newline.
 unfoldable pub answerDigits : Reply → List ℕ

@@ -1,19 +1,18 @@
 -- A line that is longer than every call line is bad: so its first 27 characters say what it says.
 -- Assumes nothing.
-use Prim.Native.Nat.{ℕ, _-_, _/_, _%_, _<_, _≤_}
+use Prim.Native.Nat.{ℕ, _-_, _/_, _%_, _<_}
 use native.Mathlib.Omega.{arith}
-use mathlib.Core.Path.{_≡_, refl, ap, _∙_}
+use mathlib.Core.Path.{_≡_, refl, ap}
 use mathlib.Core.Bool.{Bool, true, false, cond, _&&_}
 use mathlib.Core.List.{List, [], _∷_}
-use mathlib.Core.Option.{Option, none}
+use mathlib.Core.Option.{none}
 use lib.Dec.{eqb}
 use lib.ListN.{length}
 use lib.Seq.{length-take-le}
 use borrow.Author.Tests.{ne-eqb, eqb-true}
 use Rattle.seq.specs.Lists.{all}
-use Rattle.line.specs.declared.Call.{Call}
 use Rattle.line.specs.declared.Line.the-variants.{Bad}
-use Rattle.line.specs.Hex.{isDigit, isHex, bytesOf}
+use Rattle.line.specs.Hex.{isDigit, bytesOf}
 use Rattle.line.specs.Frame.{isChecked, bodyOf, fromBytes}
 use Rattle.line.specs.Calls.{longestLine, byteAt, isCall, callIn, callKind, lineFor, readLine}
 
@@ -32,9 +31,9 @@ not-second true b e = e
 not-second false b e = refl
 
 -- The body of a call has 12 bytes at most.
-no-call : (b : List ℕ) → 12 < length b → callIn b ≡ none
+pub longest-body : (b : List ℕ) → 12 < length b → callIn b ≡ none
 unfolding callIn
-no-call b h =
+longest-body b h =
     rw (
       no 1 3 (λ (e : length b ≡ 3). omega arith),
       no 2 1 (λ (e : length b ≡ 1). omega arith),
@@ -52,7 +51,7 @@ unfolding readLine callKind
 too-long cs h = by-hex (all isDigit cs) (eqb (length cs % 2) 0) refl
   where
     by-sum : length cs % 2 ≡ 0 → (b : Bool) → lineFor (cond b (callIn (bodyOf (bytesOf cs))) none) ≡ Bad
-    by-sum e true = ap lineFor (no-call (bodyOf (bytesOf cs)) (omega (arith, bytes-length cs, body-length (bytesOf cs))))
+    by-sum e true = ap lineFor (longest-body (bodyOf (bytesOf cs)) (omega (arith, bytes-length cs, body-length (bytesOf cs))))
     by-sum e false = refl
 
     by-hex : (a b : Bool) → eqb (length cs % 2) 0 ≡ b → lineFor (cond (a && b) (fromBytes callKind (bytesOf cs)) none) ≡ Bad

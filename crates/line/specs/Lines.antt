@@ -10,6 +10,7 @@ use Rattle.line.specs.declared.Line.{Line}
 use Rattle.line.specs.declared.Line.the-variants.{Good, Bad}
 use Rattle.line.specs.declared.LineAt.{LineAt}
 use Rattle.line.specs.Hex.{isDigit, charValue, sum8}
+use Rattle.line.specs.Frame.{framed}
 use Rattle.line.specs.Calls.{readLine}
 
 abbrev pub newline : ℕ
@@ -17,6 +18,13 @@ newline = 10
 
 abbrev pub isNewline : ℕ → Bool
 isNewline c = eqb c newline
+
+-- The line of a body with its newline, and its length.
+abbrev pub wholeOf : List ℕ → List ℕ
+wholeOf body = framed body ++ (newline ∷ [])
+
+abbrev pub lineSize : List ℕ → ℕ
+lineSize body = 2 * length body + 3
 
 -- A last line may lack its newline; nothing after the last newline is no line.
 abbrev pub lastLine : List ℕ → List (List ℕ)

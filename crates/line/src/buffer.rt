@@ -1,4 +1,5 @@
 // A buffer of lines: where a line ends, and bytes copied into one.
+// The `requires` are met by who has come to a place of the buffer, or has tested that there is room.
 ghost use mathlib.Core.Path.{_≡_};
 ghost use Prim.Native.Nat.{_+_, _≤_};
 ghost use lib.ListN.{length};

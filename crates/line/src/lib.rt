@@ -1,4 +1,5 @@
 // Lines of the program: calls that are read, answers that are written, both as lower-case hex pairs with a check byte.
+pub mod answer;
 pub mod buffer;
 pub mod scan;
 pub mod tables;
@@ -187,7 +188,7 @@ fn lists_in(body: &[u8]) -> Call
 }
 
 // The call that a body stands for, by its call byte and its length.
-fn call_in(body: &[u8]) -> Line
+pub fn call_in(body: &[u8]) -> Line
     ensures { λ r. ⌜ r ≡ lineFor (callIn (now (body .entry))) ⌝ }
 {
     if is_call(body, 1, 3) {

@@ -1,14 +1,17 @@
-// Answer lines written straight into a lent buffer.
-// The public function's `requires` are met by who lends the table and has made room for each answer.
+// Lines written straight into a lent buffer.
 use crate::Reply;
+use crate::high_digit;
+use crate::low_digit;
+use crate::sum8;
 use crate::tables::TABLE_SIZE;
 ghost use mathlib.Core.Path.{_≡_};
 ghost use mathlib.Core.List.{[], _∷_};
-ghost use Prim.Native.Nat.{_+_, _-_, _%_, _≤_};
+ghost use Prim.Native.Nat.{_+_, _-_, _*_, _%_, _≤_};
 ghost use lib.ListN.{length};
 ghost use lib.Seq.{paste};
 ghost use Rattle.seq.specs.Stores.{Stored};
 ghost use Rattle.line.specs.Hex.{digitPair, digitsOf, sum8, wordBytes, digitTables};
+ghost use Rattle.line.specs.Lines.{lineSize, wholeOf};
 ghost use Rattle.line.specs.Answers.{answerLine};
 
 const BYTES: usize = 256;
@@ -59,6 +62,7 @@ fn check_byte(sum: u8) -> u8
 }
 
 // Writes the line of an answer, and gives the place behind it.
+// The `requires` is met by who lends the table and has made room for each answer.
 pub fn write_reply(tables: &[u16; TABLE_SIZE], out: &mut [u8], at: usize, reply: Reply) -> usize
     requires { ⌜ (now tables ≡ digitTables) × (at + 17 ≤ length (now out)) ⌝ }
     ensures { λ r. ⌜ (now (out .exit) ≡ paste (now (out .entry)) at (answerLine reply) 17) × (r ≡ at + 17) ⌝ }
@@ -77,4 +81,35 @@ pub fn write_reply(tables: &[u16; TABLE_SIZE], out: &mut [u8], at: usize, reply:
     write_byte(tables, out, at + 14, check_byte(sum));
     out[last] = b'\n';
     next
+}
+
+// The digits of bytes, one behind the other.
+fn write_digits(target: &mut [u8], bytes: &[u8])
+    requires { ⌜ 2 * length (now bytes) ≤ length (now target) ⌝ }
+    ensures { λ _. ⌜ Stored (now (target .entry)) 0 (digitsOf (now (bytes .entry))) (2 * length (now (bytes .entry))) (now (target .exit)) ⌝ }
+{
+    let mut i = 0;
+    while i < bytes.len() {
+        let byte = bytes[i];
+        target[2 * i] = high_digit(byte);
+        target[2 * i + 1] = low_digit(byte);
+        i += 1;
+    }
+}
+
+// Writes the line of a body, newline last, at the front of a buffer, and gives the line's length.
+// The `requires` is met by who has tested that there is room.
+pub fn write_framed(target: &mut [u8], body: &[u8]) -> usize
+    requires { ⌜ lineSize (now body) ≤ length (now target) ⌝ }
+    ensures { λ r.
+        let b = now (body .entry) in
+        ⌜ (r ≡ lineSize b) × (now (target .exit) ≡ paste (now (target .entry)) 0 (wholeOf b) (lineSize b)) ⌝ }
+{
+    let n = 2 * body.len();
+    let check = check_byte(sum8(body));
+    write_digits(target, body);
+    target[n] = high_digit(check);
+    target[n + 1] = low_digit(check);
+    target[n + 2] = b'\n';
+    n + 3
 }

@@ -20,7 +20,7 @@ use Rattle.def.specs.declared.RefpResult.{RefpResult}
 use Rattle.def.specs.declared.Answer.{Answer}
 use Rattle.def.specs.declared.Answer.the-variants.{Done, Picture, NotYet, NoMore, Counts, Refused}
 use Rattle.def.specs.declared.Refusal.{Refusal}
-use Rattle.def.specs.declared.Refusal.the-variants.{SizeTooBig, StoreFull, PictureLeased, NoLease, SlotTaken, NumberTooHigh, StateNotWhole, TooManyReferences, NoReferences, OldReference, ForwardListEmpty, BackwardListEmpty, SameNumber, NoSuchPlace, BadLayer, BadRecord, BadLength, BadLine}
+use Rattle.def.specs.declared.Refusal.the-variants.{SizeTooBig, StoreFull, PictureLeased, NoLease, SlotTaken, NumberTooHigh, StateNotWhole, TooManyReferences, NoReferences, OldReference, ForwardListEmpty, BackwardListEmpty, SameNumber, NoSuchPlace, BadLayer, BadRecord, BadLength, BadLine, NoRoom}
 use Rattle.def.specs.Refusals.{refusalNumber}
 use Rattle.def.specs.State.{slots}
 use Rattle.poc.specs.declared.PocAnswer.{PocAnswer}
@@ -60,9 +60,9 @@ use Rattle.machine.specs.Run.{Runner, endLine, extendLine, feed, start}
 
 -- ---- a call that is turned down
 
--- A status from 1 to 18.
+-- A status from 1 to 20.
 abbrev pub TurnedDown : Reply → Type 0
-TurnedDown r = (1 ≤ r .status) × (r .status ≤ 18)
+TurnedDown r = (1 ≤ r .status) × (r .status ≤ 20)
 
 pub refused-answer : {P : Type 0} (call : ℕ) (a : Answer) → TurnedDown (replyOf call a) → ((why : Refusal) → a ≡ Refused why → P) → P
 refused-answer call Done t f = absurd (omega (arith, t .0))
@@ -198,6 +198,7 @@ is-seven BadLayer e = absurd (omega arith)
 is-seven BadRecord e = absurd (omega arith)
 is-seven BadLength e = absurd (omega arith)
 is-seven BadLine e = absurd (omega arith)
+is-seven NoRoom e = absurd (omega arith)
 
 seven-answer : (call : ℕ) (a : Answer) → replyOf call a .status ≡ 7 → a ≡ Refused StateNotWhole
 seven-answer call Done e = absurd (omega arith)

@@ -3,3 +3,4 @@ pub mod Depths
 pub mod Copied
 pub mod Called
 pub mod TurnedDown
+pub mod Lines

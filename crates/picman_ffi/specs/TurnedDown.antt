@@ -1,4 +1,4 @@
--- A function that turns its call down, with a number from 1 to 18, leaves the image as it was.
+-- A function that turns its call down, with a number from 1 to 20, leaves the image as it was.
 -- Assumes nothing.
 use mathlib.Core.Path.{_≡_, refl, ap, _∙_}
 use mathlib.Core.Bool.{Bool, true, false, cond, _&&_}
@@ -22,9 +22,9 @@ use Rattle.picman_ffi.specs.Lent.{badLine, Left, left, Answered, answere
 use Rattle.picman_ffi.specs.Copied.{isEntry, copyInto, withLists, relisted, copied}
 use Rattle.picman_ffi.specs.Called.{answerLength, answerTo, renewed, called}
 
--- A number from 1 to 18.
+-- A number from 1 to 20.
 abbrev pub TurnedDown : ℕ → Type 0
-TurnedDown n = (1 ≤ n) × (n ≤ 18)
+TurnedDown n = (1 ≤ n) × (n ≤ 20)
 
 pub new-kept : (image : List ℕ) → TurnedDown (renewed image .given) → renewed image .image ≡ image
 unfolding renewed

@@ -22,6 +22,9 @@ use refp::check_copy_refp;
 use tbl::SliceDepth;
 use tbl::slice_depth;
 use tbl::slice_depth_p;
+
+pub mod lines;
+
 ghost use mathlib.Core.Path.{_≡_};
 ghost use mathlib.Core.Bool.{true};
 ghost use lib.ListN.{length};

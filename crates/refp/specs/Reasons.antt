@@ -19,7 +19,7 @@ use Rattle.def.specs.declared.RefpResult.{RefpResult}
 use Rattle.def.specs.declared.Answer.{Answer}
 use Rattle.def.specs.declared.Answer.the-variants.{Counts, Refused}
 use Rattle.def.specs.declared.Refusal.{Refusal}
-use Rattle.def.specs.declared.Refusal.the-variants.{SizeTooBig, StoreFull, PictureLeased, NoLease, SlotTaken, NumberTooHigh, StateNotWhole, TooManyReferences, NoReferences, OldReference, ForwardListEmpty, BackwardListEmpty, SameNumber, NoSuchPlace, BadLayer, BadRecord, BadLength, BadLine}
+use Rattle.def.specs.declared.Refusal.the-variants.{SizeTooBig, StoreFull, PictureLeased, NoLease, SlotTaken, NumberTooHigh, StateNotWhole, TooManyReferences, NoReferences, OldReference, ForwardListEmpty, BackwardListEmpty, SameNumber, NoSuchPlace, BadLayer, BadRecord, BadLength, BadLine, NoRoom}
 use Rattle.def.specs.State.{listPlaces, highestPoc, isMarked}
 use Rattle.whole.specs.Whole.{whole}
 use Rattle.refp.specs.Lists.{Key, Passed, took, met-old, forward, backward, isB, isI, refused, counted, listed, onBackward, onForward, listsWhole, lists}
@@ -72,6 +72,7 @@ Reason pm c BadLayer = ⊥
 Reason pm c BadRecord = ⊥
 Reason pm c BadLength = ⊥
 Reason pm c BadLine = ⊥
+Reason pm c NoRoom = ⊥
 
 -- ---- from the number to its condition
 
@@ -166,3 +167,4 @@ module _ (pm : EvcPm) (refp : List EvcRefP) (c : RefpCall) where
   reason-refused BadRecord r = absurd r
   reason-refused BadLength r = absurd r
   reason-refused BadLine r = absurd r
+  reason-refused NoRoom r = absurd r
