@@ -1,23 +1,19 @@
 -- What is done to keys is done to the slots that they stand for; a row that no key sees may change; keys that are made are read back.
 -- Assumes nothing.
 use mathlib.Core.Path.{_≡_, refl, sym, ap, _∙_, subst}
-use mathlib.Core.Bool.{Bool, true, false, cond, not}
+use mathlib.Core.Bool.{Bool, true, false, cond}
 use mathlib.Core.Bool as Bool
-use mathlib.Core.List.{List, [], _∷_, _++_, map, List·Memᴰ, List·Memᴰ·head, List·Memᴰ·tail}
+use mathlib.Core.List.{List, [], _∷_, map, List·Memᴰ, List·Memᴰ·head, List·Memᴰ·tail}
 use Prim.Native.Nat.{ℕ, _+_, _-_, _*_, _/_, _%_, _<_, _≤_}
 use native.Mathlib.Nat.{div-div-eq-div-mul}
 use native.Mathlib.Omega.{arith}
 use mir.Val.{boolByte}
 use lib.Dec.{eqb}
-use lib.ListN.{length, replicate}
+use lib.ListN.{replicate}
 use Rattle.seq.specs.Lists.{select}
 use Rattle.seq.specs.Commute.{map-select, map-map}
-use Rattle.def.specs.declared.Slot.{Slot}
-use Rattle.def.specs.State.{emptySlot, newPic, held, unmarked, handedOver, isPresent, bufferOf}
+use Rattle.def.specs.State.{newPic, held, unmarked, handedOver, isPresent, bufferOf}
 use Rattle.keys.specs.Keys.{keyPresent, keyBuffer, keyUnmarked, keyHandedOver, keyMade, rowAt, slotAt}
-
-pub slot-zero : (rows : List ℕ) → slotAt rows 0 ≡ emptySlot
-slot-zero rows = refl
 
 -- ---- a key that loses a flag
 

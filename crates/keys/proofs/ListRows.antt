@@ -4,14 +4,14 @@ use mathlib.Core.Path.{_≡_, refl, sym, ap, _∙_}
 use mathlib.Core.List.{List, map}
 use Prim.Native.Nat.{ℕ, _+_, _-_, _*_, _<_, _≤_}
 use native.Mathlib.Omega.{arith}
-use lib.ListN.{length, getD, take, drop, length-map}
+use lib.ListN.{length, getD, take, length-map}
 use lib.Seq.{paste, ext-getD, getD-take, getD-drop, length-take-le, drop-paste}
 use Rattle.seq.specs.Table.{entries, entry}
 use Rattle.seq.specs.Fills.{length-entries}
 use Rattle.seq.specs.Maps.{map-at}
 use Rattle.def.specs.declared.EvcRefP.{EvcRefP}
 use Rattle.def.specs.State.{slots, listPlaces, noRefP}
-use Rattle.keys.specs.Keys.{rowsLength, rowLength, numberRow, rowAt, entryAt, listsIn, headAt, numberAt}
+use Rattle.keys.specs.Keys.{rowsLength, rowLength, numberRow, rowAt, entryAt, listsIn}
 use Rattle.keys.proofs.RowLaws.{row-other, row-number, row-length}
 
 entries-same : {A : Type 0} (d : A) (f g : ℕ → A) (n : ℕ) → ((k : ℕ) → k < n → f k ≡ g k) → entries f n ≡ entries g n

@@ -1,9 +1,8 @@
 // Rows of the one array of numbers.
 use crate::ROW;
-use crate::ROWS;
 ghost use mathlib.Core.Path.{_≡_};
 ghost use Prim.Native.Nat.{_*_, _<_, _≤_};
-ghost use lib.ListN.{length, drop, replicate};
+ghost use lib.ListN.{length, replicate};
 ghost use lib.Seq.{paste};
 ghost use Rattle.keys.specs.Keys.{rowCount, rowsLength, rowLength, rowAt};
 

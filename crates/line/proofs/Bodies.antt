@@ -1,26 +1,26 @@
 -- The bodies of calls and of answers stand for their records, and the records for their bodies.
 -- Assumes nothing.
-use Prim.Native.Nat.{ℕ, zero, suc, _+_, _/_, _%_, _^_, _<_, _≤_}
+use Prim.Native.Nat.{ℕ, zero, suc, _+_, _^_, _<_, _≤_}
 use native.Mathlib.Omega.{arith}
 use native.Mathlib.Nat.{add-zero, zero-add, add-suc, suc-add}
 use mathlib.Core.Path.{_≡_, refl, sym, ap, subst, _∙_}
-use mathlib.Core.Bool.{Bool, true, false, cond, _&&_}
+use mathlib.Core.Bool.{Bool, true, false, cond}
 use mathlib.Core.List.{List, [], _∷_, _++_}
 use mathlib.Core.Option.{Option, none, some}
-use lib.Dec.{ltb, eqb}
+use lib.Dec.{eqb}
 use lib.ListN.{length}
-use borrow.Author.Tests.{ltb-true, ltb-false, le-ltb, eqb-true}
+use borrow.Author.Tests.{ltb-false, le-ltb, eqb-true}
 use Rattle.seq.specs.All.{and-left, and-right}
 use Rattle.seq.specs.Table.{entriesFrom}
 use Rattle.def.specs.Word.{word-of-bytes, bytes-of-word}
 use Rattle.line.specs.declared.Call.{Call}
 use Rattle.line.specs.declared.Call.the-variants.{Init, GetEmptyPic, PutPic, OutPic, RefpInit, PocDerivation}
 use Rattle.line.specs.declared.Reply.{Reply}
-use Rattle.line.specs.Hex.{word, wordBytes}
-use Rattle.line.specs.Frame.{AreBytes, Kind}
-use Rattle.line.specs.Calls.{byteAt, wordAt, isCall, badFlags, putIn, listsIn, callIn, callBytes, callKind}
+use Rattle.line.specs.Hex.{wordBytes}
+use Rattle.line.specs.Frame.{AreBytes}
+use Rattle.line.specs.Calls.{byteAt, wordAt, isCall, badFlags, listsIn, callIn, callBytes, callKind}
 use Rattle.line.specs.Answers.{reply, replyIn, replyBytes, answerKind}
-use Rattle.line.specs.Claims.{Lawful, Faithful, CallFits, ReplyFits, CallsFaithful, AnswersFaithful}
+use Rattle.line.specs.Claims.{Lawful, CallFits, ReplyFits, CallsFaithful, AnswersFaithful}
 use Rattle.line.proofs.Faithful.{byte-fits, lines-faithful}
 
 some-is : {A : Type 0} {a b : A} → some a ≡ some b → a ≡ b

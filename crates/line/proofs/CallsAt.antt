@@ -1,15 +1,15 @@
 -- A call line at a place of a buffer: it is there just where a line of its kind's length stands there.
 -- Assumes nothing.
-use Prim.Native.Nat.{ℕ, zero, suc, _+_, _-_, _*_, _/_, _%_, _<_, _≤_}
+use Prim.Native.Nat.{ℕ, zero, suc, _+_, _-_, _*_, _/_, _%_, _<_}
 use native.Mathlib.Omega.{arith}
 use mathlib.Core.Path.{_≡_, refl, sym, ap, _∙_}
 use mathlib.Core.Bool.{Bool, true, false, cond, _&&_}
-use mathlib.Core.List.{List, [], _∷_, _++_}
+use mathlib.Core.List.{List}
 use mathlib.Core.Option.{Option, none, some}
 use lib.Dec.{ltb, eqb}
 use lib.ListN.{length, getD, take, drop, length-drop}
 use lib.Seq.{length-take-le, getD-drop, take-at}
-use borrow.Author.Tests.{ltb-true, ltb-false, lt-ltb, eqb-true, eqb-false, eq-eqb, ne-eqb}
+use borrow.Author.Tests.{ltb-true, lt-ltb, eqb-true, eqb-false}
 use Rattle.seq.specs.Lists.{all, lowest}
 use Rattle.seq.specs.All.{and-left, and-right}
 use Rattle.seq.specs.Lowest.{lowest-le, lowest-passes}
@@ -17,11 +17,10 @@ use Rattle.line.specs.declared.Call.{Call}
 use Rattle.line.specs.declared.Line.{Line}
 use Rattle.line.specs.declared.Line.the-variants.{Good, Bad}
 use Rattle.line.specs.declared.LineAt.{LineAt}
-use Rattle.line.specs.Hex.{isDigit, isHex, digitValue, bytesOf, sum8}
+use Rattle.line.specs.Hex.{isDigit, isHex, sum8}
 use Rattle.line.specs.Frame.{bodyOf}
-use Rattle.line.specs.Calls.{byteAt, callIn, lineFor, callFrom, readLine}
-use Rattle.line.specs.CallLaws.{body-length}
-use Rattle.line.specs.Lines.{isNewline, lineEnd, lineAt, wholeLine, callAt, isPair, pairAt, arePairs, pairsAt, isLineAt}
+use Rattle.line.specs.Calls.{callIn, lineFor, callFrom, readLine}
+use Rattle.line.specs.Lines.{isNewline, lineEnd, lineAt, wholeLine, callAt, arePairs, pairsAt, isLineAt}
 use Rattle.line.proofs.Reading.{no-bytes, bad-sum, good-sum, bad-digits, hex-line}
 use Rattle.line.proofs.Places.{pairs-hex, pairs-bytes, pairs-end, pairs-length, pairs-append}
 

@@ -1,13 +1,13 @@
 -- A line is its body, in hex and with its check byte, and so a kind of line is as faithful as its bodies.
 -- Assumes nothing.
-use Prim.Native.Nat.{ℕ, zero, suc, _+_, _-_, _*_, _%_, _<_}
+use Prim.Native.Nat.{ℕ, zero, suc, _+_, _-_, _%_, _<_}
 use native.Mathlib.Omega.{arith}
 use mathlib.Core.Path.{_≡_, refl, sym, ap, _∙_}
-use mathlib.Core.Bool.{Bool, true, false, cond, _&&_}
+use mathlib.Core.Bool.{Bool, true, false, cond}
 use mathlib.Core.List.{List, [], _∷_, _++_}
 use mathlib.Core.Option.{Option, none, some}
 use lib.Dec.{ltb, eqb}
-use lib.ListN.{length, getD, take, drop, length-append, drop-of-length-le, take-append-drop}
+use lib.ListN.{length, take, drop, length-append, drop-of-length-le, take-append-drop}
 use lib.Seq.{take-at, drop-cons}
 use borrow.Author.Tests.{ltb-true, lt-ltb, eqb-true, eq-eqb}
 use Rattle.seq.specs.Lists.{all}
@@ -15,7 +15,7 @@ use Rattle.seq.specs.All.{and-left, and-right, and-both}
 use Rattle.line.specs.Hex.{isDigit, isHex, bytesOf, digitsOf, sum8, checkByte}
 use Rattle.line.specs.Frame.{AreBytes, withCheck, framed, isChecked, bodyOf, Kind, fromBytes, fromLine, lineOf}
 use Rattle.line.specs.Calls.{byteAt}
-use Rattle.line.specs.Claims.{Lawful, Faithful, LinesFaithful}
+use Rattle.line.specs.Claims.{Lawful, LinesFaithful}
 use Rattle.line.proofs.HexLaws.{sum8-append, sum8-fits, check-sum, digits-hex, digits-length, digits-back, hex-bytes, hex-back}
 
 -- ---- a body with its check byte

@@ -1,19 +1,19 @@
 -- Pairs of digits at a place of a buffer: the bytes that they stand for, and where the line that they make up ends.
 -- Assumes nothing.
-use Prim.Native.Nat.{ℕ, zero, suc, _+_, _*_, _%_, _<_, _≤_}
+use Prim.Native.Nat.{ℕ, zero, suc, _+_, _*_, _<_, _≤_}
 use native.Mathlib.Omega.{arith}
 use native.Mathlib.Nat.{add-zero, zero-add, suc-add}
 use mathlib.Core.Path.{_≡_, refl, sym, ap, subst, _∙_}
-use mathlib.Core.Bool.{Bool, true, false, cond, _&&_}
-use mathlib.Core.List.{List, [], _∷_, _++_}
+use mathlib.Core.Bool.{Bool, true, false, _&&_}
+use mathlib.Core.List.{List, _∷_, _++_}
 use lib.Dec.{ltb, leb}
 use lib.ListN.{length, getD, take, drop, List·getD-eq-default}
 use lib.Seq.{drop-cons}
 use borrow.Author.Tests.{eqb-true, ne-eqb, leb-true, leb-false, lt-ltb}
 use Rattle.seq.specs.Lists.{all, lowest}
-use Rattle.seq.specs.All.{and-left, and-right, and-both}
+use Rattle.seq.specs.All.{and-left, and-right}
 use Rattle.seq.specs.Lowest.{lowest-hit, lowest-miss}
-use Rattle.line.specs.Hex.{isDigit, digitValue, charValue, bytesOf, sum8}
+use Rattle.line.specs.Hex.{isDigit, digitValue, charValue, bytesOf}
 use Rattle.line.specs.Calls.{byteAt}
 use Rattle.line.specs.Lines.{isNewline, isPair, pairAt, arePairs, pairsAt}
 use Rattle.line.proofs.HexLaws.{digit-fits, each-digit}

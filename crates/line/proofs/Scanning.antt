@@ -1,26 +1,25 @@
 -- Steps of the reader of whole lines: the sum and the test of digits with one byte more, with four more, and what each kind of call needs.
 -- Assumes nothing.
-use Prim.Native.Nat.{ℕ, zero, suc, _+_, _-_, _*_, _/_, _%_, _<_, _≤_}
+use Prim.Native.Nat.{ℕ, zero, suc, _+_, _*_, _%_, _<_, _≤_}
 use native.Mathlib.Omega.{arith}
 use mathlib.Core.Path.{_≡_, refl, sym, ap, _∙_}
 use mathlib.Core.Bool.{Bool, true, false, cond, not, _&&_, and-true}
-use mathlib.Core.List.{List, [], _∷_, _++_}
-use mathlib.Core.Option.{Option, none, some}
-use mathlib.Core.Logic.{_⊎_, ⊎-elim, inl, inr}
-use lib.Dec.{ltb, eqb}
+use mathlib.Core.List.{List}
+use mathlib.Core.Option.{none, some}
+use lib.Dec.{eqb}
 use lib.ListN.{length, getD, List·getD-eq-default}
 use borrow.Author.Tests.{ne-eqb}
 use Rattle.seq.specs.All.{and-left, and-right}
 use Rattle.line.specs.declared.Call.{Call}
 use Rattle.line.specs.declared.Call.the-variants.{Init, GetEmptyPic, PutPic, OutPic, RefpInit, PocDerivation}
 use Rattle.line.specs.declared.LineAt.{LineAt}
-use Rattle.line.specs.Hex.{isDigit, digitValue, charValue, word, sum8}
-use Rattle.line.specs.Calls.{byteAt, wordAt, badFlags, putIn, listsIn, callIn}
+use Rattle.line.specs.Hex.{isDigit, digitValue, charValue, sum8}
+use Rattle.line.specs.Calls.{byteAt, wordAt, badFlags, listsIn, callIn}
 use Rattle.line.specs.CallLaws.{not-second}
 use Rattle.line.specs.Lines.{isNewline, callAt, isPair, pairAt, arePairs, pairsAt, isLineAt}
 use Rattle.line.specs.Scan.{quadOf, Opened, Summed, Checked}
 use Rattle.line.proofs.HexLaws.{sum8-append, each-digit}
-use Rattle.line.proofs.Places.{and-three, pair-value, pairs-length, pair-entry, pairs-append, pairs-both}
+use Rattle.line.proofs.Places.{pair-value, pairs-length, pair-entry, pairs-append, pairs-both}
 use Rattle.line.proofs.CallsAt.{no-call-at, one-length}
 
 sums : (a b x : ℕ) → ((a + b) % 256 + x) % 256 % 256 ≡ (a + (b + x) % 256) % 256

@@ -11,7 +11,7 @@ use Rattle.line.specs.declared.Call.the-variants.{Init, GetEmptyPic, Put
 use Rattle.line.specs.declared.Line.{Line}
 use Rattle.line.specs.declared.Line.the-variants.{Good, Bad}
 use Rattle.line.specs.Hex.{bytesOf, sum8, word, wordBytes}
-use Rattle.line.specs.Frame.{bodyOf, Kind, fromBytes, fromLine, lineOf}
+use Rattle.line.specs.Frame.{bodyOf, Kind, fromBytes, fromLine}
 
 -- The longest call line has 26 digits.
 abbrev pub longestLine : ℕ

@@ -4,7 +4,7 @@
 use Prim.Native.Nat.{ℕ, _-_, _<_}
 use mathlib.Core.Bool.{Bool, cond, _&&_}
 use mathlib.Core.List.{List, [], _∷_, _++_}
-use mathlib.Core.Option.{Option, none, some}
+use mathlib.Core.Option.{Option, none}
 use lib.Dec.{ltb, eqb}
 use lib.ListN.{length, take}
 use Rattle.line.specs.Hex.{isHex, bytesOf, digitsOf, sum8, checkByte}

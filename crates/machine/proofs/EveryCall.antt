@@ -15,7 +15,6 @@ use Rattle.def.specs.Refusals.{refusalNumber}
 use Rattle.def.specs.State.{slots}
 use Rattle.poc.specs.declared.PocAnswer.{PocAnswer}
 use Rattle.poc.specs.declared.PocAnswer.the-variants as poc
-use Rattle.poc.specs.PictureNumber.{derive}
 use Rattle.poc.specs.Why.{Refusing}
 use Rattle.poc.proofs.Why.{derive-why, derive-refused}
 use Rattle.whole.specs.Whole.{whole}
@@ -34,14 +33,12 @@ use Rattle.picman.proofs.OutLaws.{out-refused, out-why, out-keeps-whole, out-ke
 use Rattle.picman.proofs.Keeps.{remarked-size}
 use Rattle.picman.proofs.PutLaws.{Puts, puts, put-refused, put-why, put-safe}
 use Rattle.picman.proofs.PutLaws as put-laws
-use Rattle.line.specs.declared.Call.{Call}
 use Rattle.line.specs.declared.Call.the-variants.{Init, GetEmptyPic, PutPic, OutPic, RefpInit, PocDerivation}
-use Rattle.line.specs.declared.Line.{Line}
 use Rattle.line.specs.declared.Line.the-variants.{Good, Bad}
 use Rattle.line.specs.Answers.{replyOf}
 use Rattle.machine.specs.declared.Machine.{Machine}
-use Rattle.machine.specs.Step.{newMachine, putCallOf, refpCallOf, derivedReply, step, stepLine}
-use Rattle.machine.specs.Claims.{TurnedDown, Sound, CallUnchanged, LineUnchanged, CallSound, LineSound, NewSound, CallNotSeven, LineNotSeven}
+use Rattle.machine.specs.Step.{putCallOf, refpCallOf, derivedReply, step, stepLine}
+use Rattle.machine.specs.Claims.{TurnedDown, CallUnchanged, LineUnchanged, CallSound, LineSound, NewSound, CallNotSeven, LineNotSeven}
 
 -- ---- a call that is turned down
 

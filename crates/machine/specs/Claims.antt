@@ -1,7 +1,7 @@
 -- What holds of every call and every line: one that is turned down leaves state, lists and record as they were; a whole state stays whole;
 -- so refusal 7 never follows in a run from the new machine. The proofs stand in proofs/EveryCall.antt.
 -- Assumes nothing.
-use Prim.Native.Nat.{ℕ, _≤_}
+use Prim.Native.Nat.{_≤_}
 use mathlib.Core.Path.{_≡_}
 use mathlib.Core.Bool.{true}
 use lib.ListN.{length}

@@ -1,17 +1,16 @@
 -- Document 01, "Program": what each call does to state, lists and record, and what its answer shows.
 -- Assumes nothing.
-use Prim.Native.Nat.{ℕ, _+_, _-_, _*_, _/_, _%_, _^_}
-use mathlib.Core.Bool.{Bool, false, cond, not}
+use Prim.Native.Nat.{ℕ, _*_, _/_, _%_}
+use mathlib.Core.Bool.{Bool, false, not}
 use mathlib.Core.List.{List}
-use lib.Dec.{ltb, eqb}
-use lib.IntN.{ℤ, pos, negsuc}
+use lib.Dec.{eqb}
+use lib.IntN.{pos}
 use lib.ListN.{replicate}
 use Rattle.def.specs.Constants.{sliceTypeOf}
 use Rattle.def.specs.Refusals.{refusalNumber}
 use Rattle.def.specs.State.{listPlaces, newPm}
 pub use Rattle.def.specs.Word.{signedOf}
 use Rattle.def.specs.declared.EvcRefP.{EvcRefP}
-use Rattle.def.specs.declared.EvcPoc.{EvcPoc}
 use Rattle.def.specs.declared.PutCall.{PutCall}
 use Rattle.def.specs.declared.RefpCall.{RefpCall}
 use Rattle.def.specs.declared.PmResult.{PmResult}

@@ -16,7 +16,7 @@ ghost use lib.IntN.{pos};
 ghost use Rattle.def.specs.State.{newPm};
 ghost use Rattle.poc.specs.PictureNumber.{recordOf};
 ghost use Rattle.machine.specs.Running.{newScalars};
-ghost use Rattle.machine.specs.Step.{newRefP, newLists, newMachine};
+ghost use Rattle.machine.specs.Step.{newLists, newMachine};
 
 pub fn new_pm() -> EvcPm
     ensures { λ r. ⌜ r ≡ newPm ⌝ }

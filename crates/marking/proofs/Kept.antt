@@ -3,16 +3,15 @@
 use Prim.Native.Nat.{ℕ, zero, suc, _+_, _≤_}
 use native.Mathlib.Omega.{arith}
 use mathlib.Core.Path.{_≡_, refl, ap, _∙_}
-use mathlib.Core.Bool.{Bool, true, false, cond, not, _&&_}
+use mathlib.Core.Bool.{Bool, true, false, cond, not}
 use mathlib.Core.List.{List, [], _∷_, _++_, map}
-use lib.Dec.{eqb}
 use lib.ListN.{length}
 use Rattle.seq.specs.Lists.{all, count, selectAt, moveTo}
 use Rattle.seq.specs.All.{and-left, and-right, and-both}
 use Rattle.seq.specs.Partition.{others}
 use Rattle.seq.specs.Reorder.{Reordered, count-cons, count-length-same, reordered-past, reordered-move, reordered-all}
 use Rattle.def.specs.declared.Slot.{Slot}
-use Rattle.def.specs.State.{slots, noSlot, isPresent, bufferOf, isMarked, unmarked}
+use Rattle.def.specs.State.{slots, noSlot, isMarked, unmarked}
 use Rattle.marking.specs.Marking.{lastSlot, outdated, sweep, excess, unmarkFirst, noteFirst, lastWalk, slide, marked}
 
 -- The slots ys are the slots xs in some order, some of them unmarked: a test that does not read the mark is passed by as many,
@@ -122,18 +121,3 @@ sweep-length picks xs = kept-length (sweep-kept picks xs)
 pub marked-kept : (gap : ℕ) (xs : List Slot) → length xs ≡ slots → Kept xs (marked gap xs)
 unfolding marked
 marked-kept gap xs e = kept-trans (sweep-kept (outdated gap) xs) (slide-kept (sweep (outdated gap) xs) (sweep-length (outdated gap) xs ∙ e))
-
--- ---- what that says of the pictures
-
-module _ {xs ys : List Slot} (k : Kept xs ys) where
-  pub kept-present : count isPresent ys ≡ count isPresent xs
-  kept-present = k .as-many isPresent (λ s. refl)
-
-  -- as many pictures lie under buffer number b
-  pub kept-buffer : (b : ℕ) → count (λ s. isPresent s && eqb b (bufferOf s)) ys ≡ count (λ s. isPresent s && eqb b (bufferOf s)) xs
-  kept-buffer b = k .as-many (λ s. isPresent s && eqb b (bufferOf s)) (λ s. refl)
-
-  -- and as many of them have number n: no picture's number changes
-  pub kept-number : (b n : ℕ)
-      → count (λ s. isPresent s && eqb b (bufferOf s) && eqb n (s .pic .poc)) ys ≡ count (λ s. isPresent s && eqb b (bufferOf s) && eqb n (s .pic .poc)) xs
-  kept-number b n = k .as-many (λ s. isPresent s && eqb b (bufferOf s) && eqb n (s .pic .poc)) (λ s. refl)

@@ -1,7 +1,7 @@
 -- What the type of a value tells of it: each number fits its width and each array has its length. So a machine that a function has
 -- fits an image, and its image holds it.
 -- Assumes nothing.
-use Prim.Native.Nat.{ℕ, _*_}
+use Prim.Native.Nat.{ℕ}
 use mathlib.Core.List.{List, [], _∷_, map, List·Memᴰ, List·Memᴰ·not-nil}
 use mathlib.Core.Path.{_≡_, sym, _∙_}
 use native.Mathlib.Omega.{arith}

@@ -1,6 +1,6 @@
 -- The next line of a piece: by a search, and as one that stands whole in the piece; and what a line does to a machine that runs.
 -- Assumes nothing.
-use Prim.Native.Nat.{ℕ, _+_, _≤_, _<_}
+use Prim.Native.Nat.{ℕ, _+_}
 use native.Mathlib.Omega.{arith}
 use mathlib.Core.Path.{_≡_, refl, sym, ap, _∙_, subst}
 use mathlib.Core.Bool.{Bool, true, false, cond}
@@ -16,7 +16,6 @@ use Rattle.line.specs.Lines.{lineEnd, lineAt, wholeLine, callAt}
 use Rattle.machine.specs.declared.{Scalars.Scalars, Made.Made}
 use Rattle.machine.specs.Step.{stepLine}
 use Rattle.machine.specs.Running.{machineIn, Runs, Makes}
-use Rattle.run.specs.declared.NextLine.{NextLine}
 use Rattle.run.specs.Session.{NextIs}
 
 -- What a good line that was found whole says.

@@ -5,9 +5,6 @@ use mathlib.Core.Bool.{Bool, true, false, cond}
 use mathlib.Core.List.{List, [], _∷_, _++_, append-assoc}
 use Prim.Native.Nat.{ℕ}
 use lib.Dec.{eqb}
-use Rattle.line.specs.Calls.{readLine}
-use Rattle.line.specs.Answers.{answerLine}
-use Rattle.machine.specs.Step.{stepLine}
 use Rattle.line.specs.Lines.{newline, linesFrom}
 use Rattle.run.specs.Run.{Runner, Fed, after, answersTo, program, endLine, extendLine, feedByte, feed, feedPieces, finish, start, joined, PiecesAgree}
 

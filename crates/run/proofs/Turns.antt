@@ -4,7 +4,7 @@
 use Prim.Native.Nat.{ℕ, suc, _+_, _*_, _≤_, _<_}
 use native.Mathlib.Omega.{arith}
 use mathlib.Core.Path.{_≡_, refl, sym, ap, _∙_}
-use mathlib.Core.List.{List, [], _∷_, _++_, append-nil, append-assoc}
+use mathlib.Core.List.{List, [], _++_, append-nil, append-assoc}
 use lib.ListN.{length, take, drop, length-drop, take-append-drop}
 use lib.Seq.{take-all, drop-drop, drop-paste, length-take-le, paste, take-paste, length-paste}
 use Rattle.seq.specs.Lists.{lowest}
@@ -18,7 +18,7 @@ use Rattle.machine.specs.declared.{Machine.Machine, Stepped.Stepped}
 use Rattle.machine.specs.Step.{stepped, stepLine}
 use Rattle.run.specs.Run.{Runner, Fed, after, feed}
 use Rattle.run.specs.Session.{answerSize}
-use Rattle.run.proofs.Feeding.{runnerOf, ended, stopped, feed-line, feed-rest}
+use Rattle.run.proofs.Feeding.{runnerOf, ended, feed-line, feed-rest}
 
 pub answer-size : (r : Reply) → length (answerLine r) ≡ answerSize
 unfolding answerLine answerDigits digitsOf

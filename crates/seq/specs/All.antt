@@ -35,11 +35,6 @@ pub cond-false : {A : Type 0} {b : Bool} (x y : A) → b ≡ false → cond b x 
 cond-false {b = true} x y e = absurd (Bool.true≢false e)
 cond-false {b = false} x y e = refl
 
--- a test that holds wherever another does
-pub implied : {a b : Bool} → (a ≡ true → b ≡ true) → b ≡ false → a ≡ false
-implied {a = true} f e = absurd (Bool.false≢true (sym e ∙ f refl))
-implied {a = false} f e = refl
-
 module _ {A : Type 0} (p : A → Bool) where
   pub all-append : (xs ys : List A) → all p (xs ++ ys) ≡ (all p xs && all p ys)
   unfolding all

@@ -10,7 +10,7 @@ use native.Mathlib.Decide.{ℕ-discrete}
 use native.Mathlib.Omega.{arith}
 use lib.Arith.{lt-of-le-ne}
 use lib.Dec.{eqb}
-use lib.ListN.{length, length-map}
+use lib.ListN.{length}
 use borrow.Author.Tests.{eqb-true, eqb-false, not-true}
 use Rattle.seq.specs.Lists.{select, Distinct, Once}
 use Rattle.seq.specs.Members.{mem-map, mem-unmap, mem-select, find-mem}
@@ -30,10 +30,6 @@ module _ {A B : Type 0} (f : A → B) where
   -- where f tells the members apart, their images differ
   pub distinct-map : (xs : List A) → ((a b : A) → List·Memᴰ a xs → List·Memᴰ b xs → f a ≡ f b → a ≡ b) → Distinct xs → Distinct (map f xs)
   distinct-map xs apart d = distinct-by (λ a. a) f xs apart (subst (λ (l : List A). Distinct l) (sym (map-id xs)) d)
-
-  -- where the images differ, so do the members
-  pub distinct-unmap : (xs : List A) → Distinct (map f xs) → Distinct xs
-  distinct-unmap xs d = subst (λ (l : List A). Distinct l) (map-id xs) (distinct-by f (λ a. a) xs (λ a b m n e. ap f e) d)
 
 module _ {A : Type 0} where
   -- two lists joined: each is distinct, and no element stands in both
@@ -137,12 +133,6 @@ pigeonhole (suc n) xs d below =
         let s = mem-select (λ z. not (eqb z n)) xs m in
         let l = below y (s .0) in
         lt-of-le-ne (omega arith) (eqb-false y n (not-true (eqb y n) (s .1)))
-
--- the same of any list whose members f sends to different numbers below n
-pub pigeonhole-by : {A : Type 0} (f : A → ℕ) (n : ℕ) (xs : List A) → Distinct (map f xs) → ((x : A) → List·Memᴰ x xs → f x < n) → length xs ≤ n
-pigeonhole-by f n xs d below =
-    subst (λ (k : ℕ). k ≤ n) (length-map xs f)
-    (pigeonhole n (map f xs) d (λ y m. let u = mem-unmap f xs m in subst (λ (k : ℕ). k < n) (sym (u .2)) (below (u .0) (u .1))))
 
 -- n numbers below n, none twice: each of them is met
 pub all-met : (n : ℕ) (xs : List ℕ) → Distinct xs → ((x : ℕ) → List·Memᴰ x xs → x < n) → length xs ≡ n → (k : ℕ) → k < n → List·Memᴰ k xs

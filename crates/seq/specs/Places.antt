@@ -1,13 +1,13 @@
--- A list gone over from place i on: its elements selected by element and place, or changed where they stand.
+-- A list gone over from place i on: its elements selected by element and place.
 -- Assumes nothing.
-use mathlib.Core.Path.{_≡_, refl, sym, ap, _∙_}
+use mathlib.Core.Path.{_≡_, refl}
 use mathlib.Core.Bool.{Bool, true, false}
-use mathlib.Core.List.{List, [], _∷_, _++_, map, map-append, append-nil}
+use mathlib.Core.List.{List, [], _∷_}
 use Prim.Native.Nat.{ℕ, suc, _+_, _≤_, _<_}
 use native.Mathlib.Numerals.{add-one}
 use native.Mathlib.Omega.{arith}
-use lib.ListN.{length, take, drop, getD, set, length-map, drop-of-length-le}
-use lib.Seq.{drop-cons, length-take-le, take-all, take-suc, take-suc-set, set-at, drop-set-lt, append-snoc}
+use lib.ListN.{length, drop, getD, drop-of-length-le}
+use lib.Seq.{drop-cons}
 use Rattle.seq.specs.Lists.{selectAt}
 
 module _ {A : Type 0} (p : ℕ → A → Bool) (d : A) (xs : List A) (i : ℕ) where
@@ -23,21 +23,6 @@ module _ {A : Type 0} (p : ℕ → A → Bool) (d : A) (xs : List A) (i : ℕ) w
   pub select-end : length xs ≤ i → selectAt p i (drop i xs) ≡ []
   unfolding selectAt
   select-end h = rw (drop-of-length-le xs h)
-
-module _ {A : Type 0} (f : A → A) (d : A) (xs : List A) (i : ℕ) where
-  -- the element at place i is changed: what is left to change is the rest from place i + 1 on
-  pub map-step : i < length xs
-      → take (i + 1) (set xs i (f (getD xs i d))) ++ map f (drop (i + 1) (set xs i (f (getD xs i d)))) ≡ take i xs ++ map f (drop i xs)
-  map-step h = rw (add-one i, take-suc-set xs i (f (getD xs i d)), drop-set-lt (suc i) xs i (f (getD xs i d)) (omega arith), append-snoc, drop-cons xs i d)
-
-  pub map-end : length xs ≤ i → take i xs ++ map f (drop i xs) ≡ xs
-  map-end h = rw (drop-of-length-le xs h, append-nil, take-all i xs)
-
--- a list whose front is filled from another, one element after the other
-pub front-step : {A B : Type 0} (f : A → B) (d : A) (e : B) (xs : List A) (ys : List B) (i : ℕ) → i < length xs → i < length ys
-    → set (map f (take i xs) ++ drop i ys) i (f (getD xs i d)) ≡ map f (take (i + 1) xs) ++ drop (i + 1) ys
-front-step f d e xs ys i h k =
-    rw (add-one i, drop-cons ys i e k, set-at (map f (take i xs)) (getD ys i e) (drop (suc i) ys) (f (getD xs i d)) i (length-map (take i xs) f ∙ length-take-le i xs (omega arith)), take-suc xs i d h, map-append, append-snoc)
 
 -- tests that agree on each element in its place select the same
 pub select-same : {A : Type 0} (p q : ℕ → A → Bool) (d : A) (i : ℕ) (xs : List A)

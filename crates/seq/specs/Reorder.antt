@@ -9,7 +9,6 @@ use native.Mathlib.Nat.{le-of-suc-le-suc, not-suc-le-zero}
 use native.Mathlib.Omega.{arith}
 use lib.ListN.{length, take, drop, take-append-drop}
 use Rattle.seq.specs.Lists.{all, count, moveTo}
-use Rattle.seq.specs.Counts.{count-yes, count-not}
 
 module _ {A : Type 0} where
   -- ys has the elements of xs, each as often

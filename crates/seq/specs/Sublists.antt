@@ -2,9 +2,9 @@
 -- Assumes nothing.
 use mathlib.Core.Path.{_≡_, refl, sym, ap, _∙_}
 use mathlib.Core.Bool.{Bool, true}
-use mathlib.Core.List.{List, [], _∷_, _++_, reverse, reverse-cons, Sublistᴰ, Sublistᴰ·slnil, Sublistᴰ·cons, Sublistᴰ·cons-cons, List·Memᴰ, List·Memᴰ·head, List·Memᴰ·tail, List·Memᴰ·not-nil, List·Memᴰ·cases-cons, List·Memᴰ·eq-of-singleton, Memᴰ·cast}
+use mathlib.Core.List.{List, [], _∷_, reverse, reverse-cons, Sublistᴰ, Sublistᴰ·slnil, Sublistᴰ·cons, Sublistᴰ·cons-cons, List·Memᴰ, List·Memᴰ·head, List·Memᴰ·tail, List·Memᴰ·not-nil, List·Memᴰ·cases-cons, List·Memᴰ·eq-of-singleton, Memᴰ·cast}
 use mathlib.Core.Logic.{⊎-elim}
-use Prim.Native.Nat.{ℕ, suc, _≤_}
+use Prim.Native.Nat.{_≤_}
 use native.Mathlib.Omega.{arith}
 use lib.ListN.{length}
 use Rattle.seq.specs.Lists.{count, Distinct}

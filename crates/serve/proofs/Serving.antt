@@ -1,14 +1,14 @@
 -- The session stays sound from turn to turn.
 -- Assumes nothing.
 use Prim.Native.Nat.{ℕ}
-use mathlib.Core.Path.{_≡_, refl, sym, ap, _∙_, subst}
+use mathlib.Core.Path.{refl, sym, ap, _∙_, subst}
 use mathlib.Core.List.{List}
 use lib.ListN.{length-replicate}
 use Rattle.def.specs.State.{slots}
 use Rattle.keys.specs.Keys.{rowsLength}
 use Rattle.whole.specs.Whole.{whole}
 use Rattle.machine.specs.declared.{Machine.Machine, Scalars.Scalars}
-use Rattle.machine.specs.Running.{newScalars, Runs}
+use Rattle.machine.specs.Running.{Runs}
 use Rattle.machine.proofs.Running.{new-machine}
 use Rattle.machine.proofs.EveryCall.{new-sound}
 use Rattle.run.specs.declared.Session.{Session}

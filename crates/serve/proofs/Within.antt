@@ -1,9 +1,9 @@
 -- What a run over a piece wrote stands inside the output.
 -- Assumes nothing.
-use Prim.Native.Nat.{ℕ, _+_, _≤_}
+use Prim.Native.Nat.{ℕ, _≤_}
 use native.Mathlib.Omega.{arith}
-use mathlib.Core.Path.{_≡_, ap, _∙_}
-use mathlib.Core.List.{List, _++_}
+use mathlib.Core.Path.{ap, _∙_}
+use mathlib.Core.List.{List}
 use lib.ListN.{length, drop, length-append}
 use Rattle.run.specs.declared.{Session.Session, Ran.Ran}
 use Rattle.run.specs.Run.{feed, finish}

@@ -31,12 +31,13 @@ pub record TurnRoom (keys rows : List ℕ) (s : Session) (tables piece out : Lis
   pub answers-fit : answerSize * length piece ≤ length out
   pub answer-fits : answerSize ≤ length out
 
--- Nothing was read: machine and session are as they were.
+-- Nothing was read or written: machine and session are as they were.
 pub record Idle (keys rows : List ℕ) (s : Session) (t : Handed) (keys′ rows′ : List ℕ) : Type 0 where
   pub same-keys : keys′ ≡ keys
   pub same-rows : rows′ ≡ rows
   pub same-session : t .session ≡ s
   pub nothing-read : t .read ≡ 0
+  pub nothing-written : t .written ≡ 0
 
 -- The bytes that were read, at the front of the piece, were run over, and the answers stand at the front of `out`.
 pub record Ranging (keys rows : List ℕ) (s : Session) (out : List ℕ) (t : Handed) (keys′ rows′ piece′ out′ : List ℕ) : Type 0 where

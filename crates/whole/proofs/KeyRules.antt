@@ -20,6 +20,7 @@ use Rattle.def.specs.State.{slots, listPlaces, highestPoc, isPresent, isMarked}
 use Rattle.keys.specs.declared.Rest.{Rest}
 use Rattle.keys.specs.Keys.{keyPresent, keyMarked, keyRef, keyOut, keyBuffer, keyLayer, keyNumber, slotAt, stands}
 use Rattle.keys.proofs.KeyLaws.{buffers-same}
+use Rattle.whole.specs.Laws.{six}
 use Rattle.whole.specs.declared.Tally.{Tally}
 use Rattle.whole.specs.Whole.{whole, places, heldBuffers, zeroIfEmpty, pocFits}
 use Rattle.whole.specs.Tallies.{noTally, tallied, tallyAll}
@@ -40,14 +41,6 @@ no-bits k even buf num ref out layer =
   where
     small : (n d : ℕ) → n / d ≡ 0 → n % d ≡ 0 → n ≡ 0
     small n d q r = sym (div-add-mod' n d) ∙ ap₂ (λ (x y : ℕ). x * d + y) q r ∙ let e : 0 * d + 0 ≡ 0 = (rw (zero-mul d) refl) in e
-
-six : (a b c d e f : Bool) → (a && b && c && d && e && f) ≡ true → (a ≡ true) × (b ≡ true) × (c ≡ true) × (d ≡ true) × (e ≡ true)
-six true true true true true f h = (refl, refl, refl, refl, refl)
-six false b c d e f h = absurd (Bool.false≢true h)
-six true false c d e f h = absurd (Bool.false≢true h)
-six true true false d e f h = absurd (Bool.false≢true h)
-six true true true false e f h = absurd (Bool.false≢true h)
-six true true true true false f h = absurd (Bool.false≢true h)
 
 module _ (rows : List ℕ) (k : ℕ) where
   -- the test of an empty slot, at the numbers that a key without a picture stands for

@@ -51,7 +51,8 @@ or-if : (a b : Bool) → (a ≡ false → b ≡ true) → (a || b) ≡ true
 or-if true b f = refl
 or-if false b f = f refl
 
-six : (a b c d e f : Bool) → (a && b && c && d && e && f) ≡ true
+-- six tests that hold together hold each
+pub six : (a b c d e f : Bool) → (a && b && c && d && e && f) ≡ true
     → (a ≡ true) × (b ≡ true) × (c ≡ true) × (d ≡ true) × (e ≡ true) × (f ≡ true)
 six true true true true true f h = (refl, refl, refl, refl, refl, h)
 six false b c d e f h = absurd (Bool.false≢true h)

@@ -1,6 +1,6 @@
 -- `def::slice_type_of` meets its contract: each arm rewrites with what its match told of the byte.
 -- Assumes nothing.
-use borrow.Author.Tests.{eq-eqb, ne-eqb}
+use borrow.Author.Tests.{ne-eqb}
 use Rattle.def.proofs.slice_type_of.Statement.{statement}
 use Rattle.def.proofs.slice_type_of.Tie as tie
 

@@ -1,10 +1,10 @@
 -- `picman_ffi::write_answer` meets its contract: eight bytes pasted over eight are what stands there then.
 -- Assumes nothing.
-use mathlib.Core.Path.{_∙_, ap, _≡_}
-use mathlib.Core.List.{List, _++_, append-nil}
+use mathlib.Core.Path.{_∙_, _≡_}
+use mathlib.Core.List.{List, append-nil}
 use Prim.Native.Nat.{ℕ, _+_}
 use native.Mathlib.Omega.{arith}
-use lib.ListN.{length, take, drop, drop-of-length-le}
+use lib.ListN.{length, drop-of-length-le}
 use lib.Seq.{take-all, paste}
 use borrow.Author.Needs.{needs}
 use Rattle.picman_ffi.proofs.write_answer.Statement.{statement}

@@ -1,5 +1,5 @@
 -- `registers::words` meets its contract. Assumes nothing.
-use mathlib.Core.Path.{_≡_, refl, ap, _∙_}
+use mathlib.Core.Path.{_≡_, refl, ap}
 use Prim.Native.Nat.{_^_, _<_}
 use lib.IntN.{ℤ}
 use lib.Signed.{mag}

@@ -5,7 +5,7 @@ use Prim.Native.Nat.{ℕ, _+_, _-_, _≤_, _<_}
 use native.Mathlib.Omega.{arith}
 use mathlib.Core.Path.{_≡_, refl, sym, ap, _∙_}
 use mathlib.Core.Bool.{true, false}
-use mathlib.Core.List.{List, [], _++_}
+use mathlib.Core.List.{List, _++_}
 use lib.ListN.{length, take, drop, length-drop}
 use lib.Seq.{take-all}
 use borrow.Author.Needs.{needs}
@@ -18,7 +18,7 @@ use Rattle.machine.specs.Step.{stepped, stepLine}
 use Rattle.machine.specs.Running.{machineIn, Runs, Makes}
 use Rattle.machine.proofs.Running.{runs-on}
 use Rattle.run.specs.declared.NextLine.{NextLine}
-use Rattle.run.specs.Run.{Fed, feed}
+use Rattle.run.specs.Run.{Fed}
 use Rattle.run.specs.Partial.{kept, heldLine, Room}
 use Rattle.run.specs.Session.{NextIs}
 use Rattle.run.proofs.Feeding.{runnerOf}

@@ -1,6 +1,6 @@
 -- `serve::serve` meets its contract: the session stays sound from turn to turn. The measure is the number of turns that are left.
 -- Assumes nothing.
-use mathlib.Core.Path.{_≡_, refl, sym, _∙_}
+use mathlib.Core.Path.{_≡_, refl, _∙_}
 use lib.ListN.{length}
 use borrow.Author.Needs.{needs}
 use Rattle.line.specs.Hex.{digitTables}

@@ -22,7 +22,7 @@ same-length : tie.Need-same-length
 same-length c = search needs
 
 returns : tie.Need-returns
-returns c = (rw (c .idle .ensures) (record { same-keys = refl; same-rows = refl; same-session = refl; nothing-read = refl }), (c .before .before .before .before .before .before .read-some .ensures, refl))
+returns c = (rw (c .idle .ensures) (record { same-keys = refl; same-rows = refl; same-session = refl; nothing-read = refl; nothing-written = refl }), (c .before .before .before .before .before .before .read-some .ensures, refl))
 
 idle-requires-2 : tie.Need-idle-requires-2
 idle-requires-2 c κs = search needs
@@ -31,7 +31,7 @@ same-length-2 : tie.Need-same-length-2
 same-length-2 c = search needs
 
 returns-2 : tie.Need-returns-2
-returns-2 c = (rw (c .idle2 .ensures) (record { same-keys = refl; same-rows = refl; same-session = refl; nothing-read = refl }), (c .before .before .before .before .before .read-some .ensures, refl))
+returns-2 c = (rw (c .idle2 .ensures) (record { same-keys = refl; same-rows = refl; same-session = refl; nothing-read = refl; nothing-written = refl }), (c .before .before .before .before .before .read-some .ensures, refl))
 
 count-requires : tie.Need-count-requires
 count-requires c κs = search needs

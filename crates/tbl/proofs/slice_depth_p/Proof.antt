@@ -1,9 +1,9 @@
 -- `tbl::slice_depth_p` meets its contract: the table passes its rule's test, and the place read is the one of the row and the position.
 -- Assumes nothing.
-use Prim.Native.Nat.{ℕ, _+_, _<_}
+use Prim.Native.Nat.{ℕ, _<_}
 use native.Mathlib.Omega.{arith}
-use mathlib.Core.Path.{_≡_, refl, sym, _∙_}
-use mathlib.Core.Bool.{Bool, true, false}
+use mathlib.Core.Path.{_≡_, sym, _∙_}
+use mathlib.Core.Bool.{Bool, true}
 use lib.Dec.{ltb}
 use lib.Count.{trailingZeros}
 use lib.Ieee as Ieee

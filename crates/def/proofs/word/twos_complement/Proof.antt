@@ -1,6 +1,6 @@
 -- `def::word::twos_complement` meets its contract: turning all bits over twice, with the sign gone in between, is two's complement.
 -- Assumes nothing.
-use Prim.Native.Nat.{ℕ, suc, _+_, _-_, _<_}
+use Prim.Native.Nat.{ℕ, suc, _-_, _<_}
 use native.Mathlib.Omega.{arith}
 use mathlib.Core.Path.{_≡_, refl, sym, ap, _∙_}
 use mathlib.Core.Bool.{true, false}
@@ -11,7 +11,6 @@ use mir.Syntax.{w32}
 use mir.Val.{Fits, SFits, toZ, ofZ}
 use mir.ValLaws.{toZ-pos, toZ-ofZ}
 use borrow.Author.Tests.{ltb-true}
-use borrow.Author.Needs.{needs}
 use Rattle.def.specs.Word.{twosComplement}
 use Rattle.def.proofs.word.twos_complement.Statement.{statement}
 use Rattle.def.proofs.word.twos_complement.Tie as tie

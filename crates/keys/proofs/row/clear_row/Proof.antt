@@ -1,10 +1,10 @@
 -- `keys::row::clear_row` meets its contract. Assumes nothing.
-use mathlib.Core.Path.{_≡_, refl, sym, ap, _∙_}
-use Prim.Native.Nat.{ℕ, _+_, _-_, _*_, _≤_, _<_}
+use mathlib.Core.Path.{_≡_, sym}
+use Prim.Native.Nat.{_-_, _*_, _<_}
 use native.Mathlib.Omega.{arith}
 use borrow.Author.Needs.{needs}
-use lib.ListN.{length, getD, take, drop, replicate, getD-replicate}
-use Rattle.keys.specs.Keys.{rowLength, rowsLength, rowCount, rowAt}
+use lib.ListN.{length, replicate, getD-replicate}
+use Rattle.keys.specs.Keys.{rowLength, rowsLength, rowCount}
 use Rattle.keys.proofs.RowLaws.{Pasting, pasting-none, pasting-turn, pasting-end}
 use Rattle.keys.proofs.row.clear_row.Statement.{statement}
 use Rattle.keys.proofs.row.clear_row.Tie as tie

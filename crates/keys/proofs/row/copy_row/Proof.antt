@@ -1,10 +1,10 @@
 -- `keys::row::copy_row` meets its contract. Assumes nothing.
-use mathlib.Core.Path.{_≡_, refl, sym, ap, _∙_}
+use mathlib.Core.Path.{_≡_, sym, ap, _∙_}
 use mathlib.Core.List.{List}
 use Prim.Native.Nat.{ℕ, _+_, _-_, _*_, _≤_, _<_}
 use native.Mathlib.Omega.{arith}
 use borrow.Author.Needs.{needs}
-use lib.ListN.{length, getD, take, drop, replicate, length-set}
+use lib.ListN.{length, getD}
 use Rattle.keys.specs.Keys.{rowLength, rowsLength, rowCount, rowAt}
 use Rattle.keys.proofs.RowLaws.{row-other, row-number, row-length, Pasting, pasting-none, pasting-turn, pasting-end}
 use Rattle.keys.proofs.row.copy_row.Statement.{statement}

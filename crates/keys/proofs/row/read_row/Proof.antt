@@ -1,10 +1,10 @@
 -- `keys::row::read_row` meets its contract. Assumes nothing.
-use mathlib.Core.Path.{_≡_, refl, sym, ap, _∙_}
-use Prim.Native.Nat.{ℕ, _+_, _-_, _*_, _≤_, _<_}
+use mathlib.Core.Path.{_≡_, refl}
+use Prim.Native.Nat.{_-_, _*_, _≤_, _<_}
 use native.Mathlib.Omega.{arith}
 use borrow.Author.Needs.{needs}
-use lib.ListN.{length, getD, take, drop, replicate, length-set}
-use Rattle.keys.specs.Keys.{rowLength, rowsLength, rowCount, rowAt}
+use lib.ListN.{length, take, drop, length-set}
+use Rattle.keys.specs.Keys.{rowsLength, rowCount}
 use Rattle.keys.proofs.RowLaws.{row-turn, row-read}
 use Rattle.keys.proofs.row.read_row.Statement.{statement}
 use Rattle.keys.proofs.row.read_row.Tie as tie

@@ -1,10 +1,10 @@
 -- `keys::row::write_row` meets its contract. Assumes nothing.
-use mathlib.Core.Path.{_≡_, refl, sym, ap, _∙_}
-use Prim.Native.Nat.{ℕ, _+_, _-_, _*_, _≤_, _<_}
+use mathlib.Core.Path.{_≡_, refl}
+use Prim.Native.Nat.{_-_, _*_, _<_}
 use native.Mathlib.Omega.{arith}
 use borrow.Author.Needs.{needs}
-use lib.ListN.{length, getD, take, drop, replicate, length-set}
-use Rattle.keys.specs.Keys.{rowLength, rowsLength, rowCount, rowAt}
+use lib.ListN.{length}
+use Rattle.keys.specs.Keys.{rowLength, rowsLength, rowCount}
 use Rattle.keys.proofs.RowLaws.{Pasting, pasting-none, pasting-turn, pasting-end}
 use Rattle.keys.proofs.row.write_row.Statement.{statement}
 use Rattle.keys.proofs.row.write_row.Tie as tie

@@ -2,11 +2,8 @@
 use Prim.Native.Nat.{_+_, _%_}
 use native.Mathlib.Omega.{arith}
 use mathlib.Core.Path.{_≡_, refl, sym, ap, _∙_}
-use mathlib.Core.Bool.{Bool, true}
 use Rattle.line.specs.declared.scan.Pair.{Pair}
-use Rattle.line.specs.Calls.{byteAt, wordAt}
-use Rattle.line.specs.Lines.{pairsAt, isLineAt}
-use Rattle.line.proofs.Places.{pair-entry}
+use Rattle.line.specs.Lines.{isLineAt}
 use Rattle.line.proofs.Scanning.{summed-pair, lists-at, cut}
 use borrow.Author.Needs.{needs}
 use Rattle.line.proofs.scan.lists_at.Statement.{statement}

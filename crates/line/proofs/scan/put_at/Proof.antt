@@ -1,7 +1,7 @@
 -- `line::scan::put_at` meets its contract. Assumes nothing.
 use native.Mathlib.Omega.{arith}
-use mathlib.Core.Path.{_≡_, refl, sym, ap, _∙_}
-use mathlib.Core.Bool.{Bool, true, not, _&&_}
+use mathlib.Core.Path.{_≡_, refl, sym, _∙_}
+use mathlib.Core.Bool.{not, _&&_}
 use lib.Dec.{ltb}
 use Rattle.line.specs.Calls.{byteAt, badFlags}
 use Rattle.line.specs.Lines.{pairsAt, isLineAt}

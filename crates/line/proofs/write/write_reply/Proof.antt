@@ -3,7 +3,6 @@
 use Prim.Native.Nat.{ℕ}
 use mathlib.Core.Path.{_≡_, refl, subst, _∙_}
 use mathlib.Core.List.{List, [], _∷_}
-use lib.ListN.{length, length-set}
 use lib.Seq.{sets-eq}
 use Rattle.seq.specs.Stores.{Stored, stored-one, stored-then, stored-length}
 use Rattle.line.specs.Hex.{digitsOf, sum8, checkByte}

@@ -1,5 +1,5 @@
 -- `machine::calls::make_call` meets its contract, call by call. Assumes nothing.
-use mathlib.Core.Path.{_≡_, refl, subst}
+use mathlib.Core.Path.{refl, subst}
 use Rattle.def.specs.declared.{PutCall.PutCall, RefpCall.RefpCall}
 use Rattle.refp.specs.Lists.{lists}
 use Rattle.picman.specs.Put.{put}

@@ -1,5 +1,5 @@
 -- `machine::calls::poc_call` meets its contract. Assumes nothing.
-use mathlib.Core.Path.{_≡_, refl, sym, ap, _∙_}
+use mathlib.Core.Path.{refl}
 use borrow.Author.Needs.{needs}
 use Rattle.machine.proofs.calls.poc_call.Statement.{statement}
 use Rattle.machine.proofs.calls.poc_call.Tie as tie

@@ -1,5 +1,5 @@
 -- `machine::fresh::new_scalars` meets its contract. Assumes nothing.
-use mathlib.Core.Path.{_≡_, refl, sym, ap, _∙_}
+use mathlib.Core.Path.{refl}
 use borrow.Author.Needs.{needs}
 use Rattle.machine.proofs.fresh.new_scalars.Statement.{statement}
 use Rattle.machine.proofs.fresh.new_scalars.Tie as tie

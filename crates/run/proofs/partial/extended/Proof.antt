@@ -1,11 +1,10 @@
 -- `run::partial::extended` meets its contract. Assumes nothing.
-use Prim.Native.Nat.{ℕ, _+_, _-_, _≤_, min}
+use Prim.Native.Nat.{ℕ, _+_}
 use native.Mathlib.Omega.{arith}
-use mathlib.Core.Path.{_≡_, sym, ap, _∙_}
+use mathlib.Core.Path.{ap, _∙_}
 use lib.ListN.{length, take}
 use lib.Seq.{paste, length-paste}
 use borrow.Author.Needs.{needs}
-use Rattle.run.specs.Partial.{kept}
 use Rattle.run.proofs.PartialLaws.{kept-append}
 use Rattle.run.proofs.partial.extended.Statement.{statement}
 use Rattle.run.proofs.partial.extended.Tie as tie
