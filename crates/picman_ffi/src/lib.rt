@@ -2,6 +2,8 @@
 // a function gives 18 and writes nothing. In the contracts `given` says, byte for byte, what is given and what the lent buffers hold then;
 // `holds` says that the bytes are an image again, from which the next call reads the machine that this one left.
 
+pub mod arrays;
+
 use entry::copy::check_copy_refp;
 use image::is_flag;
 use image::is_image;

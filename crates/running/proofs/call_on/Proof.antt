@@ -1,0 +1,82 @@
+-- `running::call_on` meets its contract: the scalars are read, the call made, and the scalars after it written unless it is turned down.
+-- Assumes nothing.
+use mathlib.Core.Path.{_≡_, sym, _∙_}
+use Rattle.running.specs.Slices.{scalarsAt}
+use Rattle.running.proofs.Answering.{refused, not-refused, scalars-are, call-refused, call-made}
+use borrow.Author.Needs.{needs}
+use Rattle.running.proofs.call_on.Statement.{statement}
+use Rattle.running.proofs.call_on.Tie as tie
+
+abbrev start : tie.After-poc-of → tie.Start
+start c = c .before .before .before .before .before .before .before
+
+-- the scalars that the call is given are those that the registers are read as
+scalars-read : (c : tie.After-poc-of) → record { rest = c .before .before .rest-of .result; poc = c .poc-of .result } ≡ scalarsAt (start c .args .registers .now)
+scalars-read c = scalars-are (start c .args .registers .now) (c .before .before .rest-of .ensures) (c .poc-of .ensures)
+
+rest-of-requires : tie.Need-rest-of-requires
+rest-of-requires c κs = search needs
+
+poc-of-requires : tie.Need-poc-of-requires
+poc-of-requires c κs = search needs
+
+checked-call-requires : tie.Need-checked-call-requires
+checked-call-requires c κs = search needs
+
+is-refusal-requires : tie.Need-is-refusal-requires
+is-refusal-requires c κs = search needs
+
+same-length : tie.Need-same-length
+same-length c = search needs
+
+same-length-2 : tie.Need-same-length-2
+same-length-2 c = search needs
+
+same-length-3 : tie.Need-same-length-3
+same-length-3 c = search needs
+
+returns : tie.Need-returns
+returns c =
+    let tested = c .before in
+    let called = tested .before .before .before .before .before .before in
+    call-refused _ _ (scalars-read (called .before .before .before)) (called .checked-call .ensures) (refused (called .checked-call .result .reply) (sym (tested .is-refusal .ensures) ∙ c .if1 .taken))
+
+store-requires : tie.Need-store-requires
+store-requires c κs =
+    let called = c .before .before .before .before .before .before .before .before .before .before .before in
+    start (called .before .before .before) .pre .1
+
+same-length-4 : tie.Need-same-length-4
+same-length-4 c = search needs
+
+same-length-5 : tie.Need-same-length-5
+same-length-5 c = search needs
+
+same-length-6 : tie.Need-same-length-6
+same-length-6 c = search needs
+
+returns-2 : tie.Need-returns-2
+returns-2 c =
+    let stored = c .before .before in
+    let left = stored .before .before .before .before .before in
+    let tested = left .before in
+    let called = tested .before .before .before .before .before .before in
+    call-made _ _ (scalars-read (called .before .before .before)) (called .checked-call .ensures) (not-refused (called .checked-call .result .reply) (sym (tested .is-refusal .ensures) ∙ left .if1 .left)) (stored .store .ensures .1 .0) (stored .store .ensures .1 .1)
+
+pub call-on-spec : {M : Type 1} → statement M
+call-on-spec =
+    tie.close
+    (tie.spec
+    rest-of-requires
+    poc-of-requires
+    checked-call-requires
+    is-refusal-requires
+    same-length
+    same-length-2
+    same-length-3
+    returns
+    store-requires
+    same-length-4
+    same-length-5
+    same-length-6
+    returns-2)

@@ -1,0 +1,29 @@
+-- The copy of one entry into the lists of the running machine.
+-- Assumes nothing.
+use Prim.Native.Nat.{ℕ, _≤_}
+use mathlib.Core.Path.{_≡_}
+use mathlib.Core.Bool.{Bool, true, cond, _&&_}
+use mathlib.Core.List.{List}
+use lib.Dec.{eqb, ltb}
+use lib.ListN.{length}
+use Rattle.def.specs.State.{listPlaces}
+use Rattle.def.specs.declared.{EvcRefP.EvcRefP, CopyResult.CopyResult}
+use Rattle.keys.specs.Keys.{rowsLength, listsIn}
+use Rattle.line.specs.Answers.{replyOf}
+use Rattle.refp.specs.Running.{PicturesStay}
+
+-- An entry by its fields; `present` is 0 or 1.
+abbrev pub entryGiven : ℕ → ℕ → ℕ → List ℕ → EvcRefP
+entryGiven present buf poc numbers = record { present = eqb present 1; buf = buf; poc = poc; «list_poc» = numbers }
+
+-- Rows and list numbers of the right sizes, and a flag.
+abbrev pub fits : List ℕ → ℕ → List ℕ → Bool
+fits rows present numbers = (eqb (length rows) rowsLength && eqb (length numbers) listPlaces) && ltb present 2
+
+-- Where they fit the copy's own result, else 18; the pictures' list numbers stay, and a number from 1 to 18 has written nothing.
+pub record Placed (r : ℕ) (fit : Bool) (rows after : List ℕ) (wanted : CopyResult) : Type 0 where
+  pub gives : r ≡ cond fit (replyOf 0 (wanted .answer) .status) 18
+  pub lists-are : fit ≡ true → listsIn after ≡ wanted .refp
+  pub pictures-stay : PicturesStay rows after
+  pub refused-leaves : (1 ≤ r) × (r ≤ 18) → after ≡ rows
+  pub rows-long : length after ≡ length rows
