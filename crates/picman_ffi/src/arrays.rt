@@ -17,7 +17,11 @@ ghost use Rattle.running.specs.Placing.{entryGiven, fits, Placed};
 
 // Writes the new machine, all zero, whatever stood there: 0.
 #[no_mangle]
-pub extern "C" fn picman_machine_new(keys: &mut [u64], rows: &mut [u32], registers: &mut [u32]) -> u8
+pub extern "C" fn picman_machine_new(
+    keys: &mut [u64],
+    rows: &mut [u32],
+    registers: &mut [u32],
+) -> u8
     ensures { λ r.
         let before = slices (now (keys .entry)) (now (rows .entry)) (now (registers .entry)) in
         let after = slices (now (keys .exit)) (now (rows .exit)) (now (registers .exit)) in

@@ -20,7 +20,7 @@ use Rattle.machine.specs.declared.{Machine.Machine, Scalars.Scalars, Made.Made}
 use Rattle.machine.specs.Step.{step, stepLine}
 use Rattle.machine.specs.Running.{machineIn, Makes}
 use Rattle.machine.specs.Claims.{TurnedDown}
-use Rattle.running.specs.Slices.{Slices, slices, scalarsAt, machineAt, sized, replyTo, isRefusal, CallLeaves, Leaves}
+use Rattle.running.specs.Slices.{Slices, slices, scalarsAt, machineAt, sized, replyTo, isRefusal, CallLeaves, Leaves, OnSlices}
 
 -- ---- a status is tested
 
@@ -116,3 +116,6 @@ good-line {r} {call} before after e c keys rows registers =
 -- by what the line is
 pub by-line : {r : Reply} {line told : Line} {before after : Slices} → line ≡ told → Replied r told before after → Replied r line before after
 by-line {r} {line} {told} {before} {after} e p = subst (λ (l : Line). Replied r l before after) (sym e) p
+
+pub on-line : {r : ℕ} {line told : Line} {before after : Slices} → line ≡ told → OnSlices r line before after → OnSlices r told before after
+on-line {r} {line} {told} {before} {after} e p = subst (λ (l : Line). OnSlices r l before after) e p
