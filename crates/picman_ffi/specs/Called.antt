@@ -2,31 +2,23 @@
 -- Assumes nothing.
 use Prim.Native.Nat.{ℕ}
 use mathlib.Core.Bool.{cond, _&&_}
-use mathlib.Core.List.{List, [], _∷_, _++_}
+use mathlib.Core.List.{List}
 use lib.Dec.{eqb}
 use lib.ListN.{length}
 use Rattle.line.specs.declared.Line.{Line}
 use Rattle.line.specs.declared.Line.the-variants.{Good, Bad}
-use Rattle.line.specs.declared.Reply.{Reply}
-use Rattle.line.specs.Hex.{checkByte}
 use Rattle.line.specs.Calls.{callFrom}
-use Rattle.line.specs.Answers.{replyBytes, badLineReply}
+use Rattle.line.specs.Answers.{badLineReply}
 use Rattle.image.specs.Image.{imageLength, imageBytes, pmOf, refpOf, pocOf, isImage}
 use Rattle.machine.specs.declared.Stepped.{Stepped}
 use Rattle.machine.specs.Step.{newMachine, step}
+use Rattle.running.specs.Wire.{answerLength, answerBytes}
 use Rattle.picman_ffi.specs.Lent.{badLine, Left, left, Answered, answered, machineOf, machineBytes}
 
 -- `picman_new`: the new machine, whatever the bytes were. Another length is 18, and nothing is written.
 unfoldable pub renewed : List ℕ → Left
 unfolding imageBytes
 renewed image = cond (eqb (length image) imageLength) (left 0 (machineBytes newMachine)) (left badLine image)
-
--- The bytes of an answer, check byte last.
-abbrev pub answerLength : ℕ
-answerLength = 8
-
-abbrev pub answerBytes : Reply → List ℕ
-answerBytes r = replyBytes r ++ (checkByte (replyBytes r) ∷ [])
 
 -- A good call: the status, the new machine's image and the answer. A bad one leaves the image and answers as a bad line does.
 abbrev pub replied : Stepped → Answered

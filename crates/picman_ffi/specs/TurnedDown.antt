@@ -20,7 +20,8 @@ use Rattle.machine.specs.Step.{newMachine}
 use Rattle.machine.proofs.EveryCall.{refused-answer, call-unchanged}
 use Rattle.picman_ffi.specs.Lent.{badLine, Left, left, Answered, answered, machineOf, machineBytes}
 use Rattle.picman_ffi.specs.Copied.{isEntry, copyInto, withLists, relisted, copied}
-use Rattle.picman_ffi.specs.Called.{answerLength, answerTo, renewed, called}
+use Rattle.running.specs.Wire.{answerLength}
+use Rattle.picman_ffi.specs.Called.{answerTo, renewed, called}
 
 -- A number from 1 to 18.
 abbrev pub TurnedDown : ℕ → Type 0

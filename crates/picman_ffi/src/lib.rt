@@ -1,7 +1,7 @@
-// The static library for C and Rust: five functions over lent bytes, thin over the crates below. Where a size or a flag byte does not fit,
-// a function gives 18 and writes nothing. In the contracts `given` says, byte for byte, what is given and what the lent buffers hold then;
-// `holds` says that the bytes are an image again, from which the next call reads the machine that this one left.
-
+// The static library for C and Rust. Here are five functions over lent bytes, thin over the crates below; those on the running machine stand
+// in `arrays`. Where a size or a flag byte does not fit, a function gives 18 and writes nothing. In the contracts `given` says, byte for byte,
+// what is given and what the lent buffers hold then; `holds` says that the bytes are an image again, from which the next call reads the machine
+// that this one left.
 pub mod arrays;
 
 use entry::copy::check_copy_refp;
@@ -14,13 +14,14 @@ use image::read::read_refps;
 use image::write::write_image;
 use line::Call;
 use line::Line;
-use line::Reply;
-use line::answer_bytes;
-use line::buffer::paste;
 use line::read_call;
 use line::reply_of;
 use machine::Machine;
 use machine::fresh::new_machine;
+use running::BAD_LINE;
+use running::bad_line_reply;
+use running::wire::ANSWER_LENGTH;
+use running::wire::write_answer;
 use stepping::step;
 use tbl::SliceDepth;
 use tbl::slice_depth;
@@ -34,20 +35,14 @@ ghost use Rattle.line.specs.Answers.{badLineReply};
 ghost use Rattle.image.specs.Image.{refpWidth, imageLength, isImage};
 ghost use Rattle.machine.specs.Step.{newMachine, step, stepLine};
 ghost use Rattle.picman_ffi.specs.Lent.{badLine, left, answered, machineOf, machineBytes, Holds};
-ghost use Rattle.picman_ffi.specs.Called.{answerLength, answerBytes, renewed, replied, called};
+ghost use Rattle.picman_ffi.specs.Called.{renewed, replied, called};
+ghost use Rattle.running.specs.Wire.{answerLength, answerBytes};
 ghost use Rattle.picman_ffi.specs.Copied.{isEntry, copyInto, withLists, relisted, copied};
 ghost use Rattle.picman_ffi.specs.Depths.{depthOrZero};
 
-// Where a size or a flag byte does not fit, and for a bad call: document 01's bad line.
-const BAD_LINE: u8 = 18;
-
 const DONE: u8 = 0;
 
-const NO_BUFFER: u8 = 0xff;
-
 const IMAGE_LENGTH: usize = 6407;
-
-const ANSWER_LENGTH: usize = 8;
 
 const ENTRY_LENGTH: usize = 90;
 
@@ -86,14 +81,6 @@ pub extern "C" fn picman_new(image: &mut [u8]) -> u8
     DONE
 }
 
-fn write_answer(answer: &mut [u8], reply: Reply)
-    requires { ⌜ length (now answer) ≡ answerLength ⌝ }
-    ensures { λ _. ⌜ now (answer .exit) ≡ answerBytes reply ⌝ }
-{
-    let bytes = answer_bytes(reply);
-    paste(answer, 0, &bytes, ANSWER_LENGTH);
-}
-
 // A good call on buffers that are what they must be.
 fn answer_good(image: &mut [u8], call: Call, answer: &mut [u8]) -> u8
     requires { ⌜ (length (now image) ≡ imageLength) × (length (now answer) ≡ answerLength) ⌝ }
@@ -113,13 +100,7 @@ fn answer_bad(answer: &mut [u8]) -> u8
     requires { ⌜ length (now answer) ≡ answerLength ⌝ }
     ensures { λ r. ⌜ (r ≡ badLine) × (now (answer .exit) ≡ answerBytes badLineReply) ⌝ }
 {
-    let reply = Reply {
-        call: 0,
-        status: BAD_LINE,
-        buf: NO_BUFFER,
-        value: 0,
-    };
-    write_answer(answer, reply);
+    write_answer(answer, bad_line_reply());
     BAD_LINE
 }
 

@@ -12,7 +12,8 @@ use Rattle.image.specs.Image.{isImage}
 use Rattle.machine.specs.declared.Machine.{Machine}
 use Rattle.machine.specs.Step.{stepLine}
 use Rattle.picman_ffi.specs.Lent.{Holds}
-use Rattle.picman_ffi.specs.Called.{answerLength, answerTo, called}
+use Rattle.running.specs.Wire.{answerLength}
+use Rattle.picman_ffi.specs.Called.{answerTo, called}
 use Rattle.image.specs.BytesKept.{image-long}
 use borrow.Author.Needs.{needs}
 use Rattle.picman_ffi.proofs.picman_call.Statement.{statement}
