@@ -4,7 +4,7 @@ use line::Call;
 use line::Line;
 use running::answer_on;
 use running::blank::renew;
-use running::placing::place_entry;
+use running::one_entry::place_entry;
 use running::put_line;
 use running::wire::call_bytes;
 ghost use Rattle.keys.specs.Keys.{listsIn};
@@ -13,7 +13,7 @@ ghost use Rattle.line.specs.declared.Line.the-variants.{Good};
 ghost use Rattle.refp.specs.Copy.{copy};
 ghost use Rattle.running.specs.Slices.{slices, putLine, OnSlices, Renewed};
 ghost use Rattle.running.specs.Wire.{Wired};
-ghost use Rattle.running.specs.Placing.{entryGiven, fits, Placed};
+ghost use Rattle.running.specs.OneEntry.{entryGiven, fits, Placed};
 
 // Writes the new machine, all zero, whatever stood there: 0.
 #[no_mangle]

@@ -17,7 +17,7 @@ use Rattle.line.specs.Answers.{replyOf}
 use Rattle.refp.specs.Copy.{copy}
 use Rattle.refp.specs.Running.{entryWith, CopyCame}
 use Rattle.machine.proofs.EveryCall.{refused-answer}
-use Rattle.running.specs.Placing.{entryGiven, fits, Placed}
+use Rattle.running.specs.OneEntry.{entryGiven, fits, Placed}
 
 pub fitting : (rows : List ℕ) (present : ℕ) (numbers : List ℕ) → fits rows present numbers ≡ true
     → (length rows ≡ rowsLength) × (length numbers ≡ listPlaces) × (present < 2)

@@ -1,4 +1,4 @@
 pub mod Slices
 pub mod Wire
-pub mod Placing
+pub mod OneEntry
 pub mod Claims

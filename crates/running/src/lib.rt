@@ -2,7 +2,7 @@
 // stand in them and every call ends. A wrong size is answered as a bad line is, with 18, a state that is not whole with 7, and a line that is
 // turned down leaves every number as it was. The static library's functions are thin over these; all take the one road of `reply_on`.
 pub mod blank;
-pub mod placing;
+pub mod one_entry;
 pub mod wire;
 
 use keys::ROWS;

@@ -1,4 +1,4 @@
--- `running::placing::place_entry` meets its contract: what does not fit is turned down, and the rest is the copy's. Assumes nothing.
+-- `running::one_entry::place_entry` meets its contract: what does not fit is turned down, and the rest is the copy's. Assumes nothing.
 use mathlib.Core.Path.{_≡_, sym, ap, _∙_}
 use mathlib.Core.Bool.{true}
 use Prim.Native.Nat.{_<_}
@@ -6,11 +6,11 @@ use lib.ListN.{length}
 use borrow.Author.Tests.{not-true, not-false}
 use Rattle.def.specs.State.{listPlaces}
 use Rattle.keys.specs.Keys.{rowsLength}
-use Rattle.running.specs.Placing.{fits}
+use Rattle.running.specs.OneEntry.{fits}
 use Rattle.running.proofs.Entering.{fitting, not-placed, placed}
 use borrow.Author.Needs.{needs}
-use Rattle.running.proofs.placing.place_entry.Statement.{statement}
-use Rattle.running.proofs.placing.place_entry.Tie as tie
+use Rattle.running.proofs.one_entry.place_entry.Statement.{statement}
+use Rattle.running.proofs.one_entry.place_entry.Tie as tie
 
 abbrev start : tie.Else1 → tie.Start
 start c = c .before .before .before .before .before

@@ -8,7 +8,7 @@ ghost use lib.ListN.{length};
 ghost use Rattle.def.specs.State.{listPlaces};
 ghost use Rattle.keys.specs.Keys.{listsIn};
 ghost use Rattle.refp.specs.Copy.{copy};
-ghost use Rattle.running.specs.Placing.{entryGiven, fits, Placed};
+ghost use Rattle.running.specs.OneEntry.{entryGiven, fits, Placed};
 
 fn is_fit(rows: &[u32], present: u8, list_poc: &[u32]) -> bool
     ensures { λ r. ⌜ r ≡ fits (now (rows .entry)) present (now («list_poc» .entry)) ⌝ }

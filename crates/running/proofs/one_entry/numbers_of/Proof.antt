@@ -1,12 +1,12 @@
--- `running::placing::numbers_of` meets its contract: the first i numbers are copied. Assumes nothing.
+-- `running::one_entry::numbers_of` meets its contract: the first i numbers are copied. Assumes nothing.
 use mathlib.Core.Path.{refl}
 use Prim.Native.Nat.{_-_}
 use native.Mathlib.Omega.{arith}
 use borrow.Author.Needs.{needs}
 use Rattle.def.specs.State.{listPlaces}
 use Rattle.running.proofs.Clearing.{Copied, copied-none, copied-turn, copied-end}
-use Rattle.running.proofs.placing.numbers_of.Statement.{statement}
-use Rattle.running.proofs.placing.numbers_of.Tie as tie
+use Rattle.running.proofs.one_entry.numbers_of.Statement.{statement}
+use Rattle.running.proofs.one_entry.numbers_of.Tie as tie
 
 abbrev Inv-loop : tie.InvT-loop
 Inv-loop list-poc numbers₀ i₀ numbers i = Copied list-poc listPlaces i numbers
