@@ -3,11 +3,10 @@ ghost use mathlib.Core.Path.{_≡_};
 ghost use mathlib.Core.List.{List};
 ghost use Prim.Native.Nat.{ℕ, _<_, _≤_};
 ghost use lib.ListN.{length, getD, set};
-ghost use Rattle.seq.specs.Lists.{any, lowest};
 ghost use Rattle.def.specs.State.{slots, highestPoc};
-ghost use Rattle.keys.specs.Keys.{keyNumber, keyWanted, keyHandedOver, rowsLength, stands};
+ghost use Rattle.keys.specs.Keys.{keyNumber, keyHandedOver, rowsLength, stands};
 ghost use Rattle.picman.specs.Out.{outWhole};
-ghost use Rattle.picman.specs.OnKeys.{keyDue, keyGiven, NumbersFit, Calls};
+ghost use Rattle.picman.specs.OnKeys.{duePlace, keyGiven, NumbersFit, Calls};
 use def::Answer;
 use keys::Called;
 use keys::Rest;
@@ -16,37 +15,28 @@ use keys::key::buffer_byte;
 use keys::key::is_wanted;
 use keys::key::number_of;
 
-fn is_due(key: u64, poc_next_output: u32) -> bool
-    ensures { λ r. ⌜ r ≡ keyDue «poc_next_output» key ⌝ }
-{
-    is_wanted(key) & (key / 65536 <= poc_next_output as u64)
-}
-
-fn lowest_due(keys: &[u64], poc_next_output: u32) -> usize
+// The lowest slot that is due. Where none is: 27 where some picture is wanted, 28 where none is. One walk, since a second one would cost as
+// much again.
+fn due_place(keys: &[u64], poc_next_output: u32) -> usize
     requires { ⌜ length (now keys) ≡ slots ⌝ }
-    ensures { λ r. ⌜ r ≡ lowest (keyDue «poc_next_output») (now (keys .entry)) ⌝ }
+    ensures { λ r. ⌜ r ≡ duePlace «poc_next_output» (now (keys .entry)) ⌝ }
 {
+    let next = poc_next_output as u64;
+    let mut wanted = false;
     let mut i: usize = 0;
     while i < SLOTS {
-        if is_due(keys[i], poc_next_output) {
-            return i;
+        let key = keys[i];
+        if is_wanted(key) {
+            if key / 65536 <= next {
+                return i;
+            }
+            wanted = true;
+            i = i + 1;
+        } else {
+            i = i + 1;
         }
-        i = i + 1;
     }
-    i
-}
-
-fn any_need_for_out(keys: &[u64]) -> bool
-    requires { ⌜ length (now keys) ≡ slots ⌝ }
-    ensures { λ r. ⌜ r ≡ any keyWanted (now (keys .entry)) ⌝ }
-{
-    let mut any = false;
-    let mut i: usize = 0;
-    while i < SLOTS {
-        any = any | is_wanted(keys[i]);
-        i = i + 1;
-    }
-    any
+    if wanted { SLOTS } else { SLOTS + 1 }
 }
 
 fn handed_over(key: u64) -> u64
@@ -79,11 +69,11 @@ pub fn out(keys: &mut [u64], rest: Rest) -> Called
     ensures { λ r. ⌜ ((rows : List ℕ) → length rows ≡ rowsLength
         → Calls r (now (keys .entry)) rows rest (now (keys .exit)) rows (outWhole (stands (now (keys .entry)) rows rest))) ⌝ }
 {
-    let pos = lowest_due(keys, rest.poc_next_output);
+    let pos = due_place(keys, rest.poc_next_output);
     if pos < SLOTS {
         return hand_over(keys, rest, pos);
     }
-    if any_need_for_out(keys) {
+    if pos == SLOTS {
         return Called {
             answer: Answer::NotYet,
             rest,
