@@ -19,7 +19,6 @@ use machine::fresh::new_scalars;
 use partial::Partial;
 use partial::extended;
 use partial::no_line;
-use partial::read_held;
 use partial::read_with;
 ghost use mathlib.Core.Path.{_≡_};
 ghost use Prim.Native.Nat.{_≤_};
@@ -164,7 +163,7 @@ pub fn new_session() -> Session
     Session { scalars, partial }
 }
 
-// At the end of the input: answers a last line that lacks its newline. Gives how many bytes were written.
+// At the end of the input: answers a last line that lacks its newline, as if it had one. Gives how many bytes were written.
 pub fn run_end(
     keys: &mut [u64],
     rows: &mut [u32],
@@ -179,8 +178,7 @@ pub fn run_end(
     if partial.len == 0 {
         return 0;
     }
-    let scalars = session.scalars;
-    let made = answer_line(keys, rows, scalars, read_held(partial));
-    let reply = made.reply;
-    write_reply(tables, out, 0, reply)
+    let newline = [b'\n'];
+    let ran = run_piece(keys, rows, session, tables, &newline, out);
+    ran.len
 }
