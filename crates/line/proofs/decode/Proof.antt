@@ -9,9 +9,9 @@ use borrow.Author.Needs.{needs}
 use borrow.Author.Tests.{not-true, not-false}
 use lib.ListN.{length, getD, take, drop, length-set, drop-of-length-le}
 use Rattle.seq.specs.Lists.{all}
-use Rattle.line.specs.Hex.{isDigit, bytesOf}
-use Rattle.line.proofs.HexLaws.{both}
-use Rattle.line.proofs.Pairs.{not-hex, pair-hex, pair-bytes}
+use Rattle.hex.specs.Hex.{isDigit, bytesOf}
+use Rattle.hex.proofs.HexLaws.{both}
+use Rattle.hex.proofs.Pairs.{not-hex, pair-hex, pair-bytes}
 use Rattle.line.proofs.decode.Statement.{statement}
 use Rattle.line.proofs.decode.Tie as tie
 
