@@ -1,14 +1,13 @@
 -- A line that is longer than every call line is bad: so its first 27 characters say what it says.
 -- Assumes nothing.
-use Prim.Native.Nat.{ℕ, _-_, _/_, _%_, _<_}
+use Prim.Native.Nat.{ℕ, _%_, _<_}
 use native.Mathlib.Omega.{arith}
 use mathlib.Core.Path.{_≡_, refl, ap}
 use mathlib.Core.Bool.{Bool, true, false, cond, _&&_}
-use mathlib.Core.List.{List, [], _∷_}
+use mathlib.Core.List.{List, []}
 use mathlib.Core.Option.{none}
 use lib.Dec.{eqb}
 use lib.ListN.{length}
-use lib.Seq.{length-take-le}
 use borrow.Author.Tests.{ne-eqb, eqb-true}
 use Rattle.seq.specs.Lists.{all}
 use Rattle.line.specs.declared.Line.the-variants.{Bad}

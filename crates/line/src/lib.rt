@@ -1,25 +1,21 @@
 // Lines of the program: calls that are read, answers that are written, both as lower-case hex pairs with a check byte.
 use def::Answer;
 use hex::high_digit;
-use hex::is_digit;
 use hex::low_digit;
-use hex::pair_value;
 use hex::sum8;
 use hex::word;
+use pairs::LONGEST_CALL;
+use pairs::decode;
 ghost use mathlib.Core.Path.{_≡_};
-ghost use mathlib.Core.Bool.{true};
-ghost use Prim.Native.Nat.{_+_, _*_, _/_, _%_, _<_, _≤_};
-ghost use lib.ListN.{length, take};
-ghost use Rattle.seq.specs.Lists.{all};
-ghost use Rattle.hex.specs.Hex.{isDigit, digitValue, bytesOf, digitOf, sum8, word};
+ghost use Prim.Native.Nat.{_+_, _*_, _/_, _%_, _<_};
+ghost use lib.ListN.{length};
+ghost use Rattle.hex.specs.Hex.{sum8, word};
 ghost use Rattle.hex.specs.Frame.{withCheck, wordAt};
 ghost use Rattle.line.specs.Calls.{isCall, putIn, listsIn, callIn, lineFor, callFrom, readLine};
 ghost use Rattle.line.specs.Answers.{noBuffer, reply, replyOf, replyBytes, answerLine};
 
-// The longest call line has 26 digits, and so 13 bytes.
+// The longest call line has 26 digits.
 pub const LONGEST_LINE: usize = 26;
-
-const LONGEST_CALL: usize = 13;
 
 // Where there is no buffer number the line shows this.
 const NO_BUFFER: u8 = 0xff;
@@ -74,26 +70,6 @@ pub struct Reply {
     pub status: u8,
     pub buf: u8,
     pub value: u32,
-}
-
-// Writes the bytes that pairs of digits stand for, up to the first pair that is not two digits; says whether all are.
-fn decode(digits: &[u8], bytes: &mut [u8; LONGEST_CALL]) -> bool
-    requires { ⌜ (length (now digits) ≤ 26) × (length (now digits) % 2 ≡ 0) × (length (now bytes) ≡ 13) ⌝ }
-    ensures hex { λ r. ⌜ r ≡ all isDigit (now (digits .entry)) ⌝ }
-    ensures bytes { λ r. ⌜ (r ≡ true → take (length (now (digits .entry)) / 2) (now (bytes .exit)) ≡ bytesOf (now (digits .entry))) ⌝ }
-{
-    let n = digits.len() / 2;
-    let mut i = 0;
-    while i < n {
-        let high = digits[2 * i];
-        let low = digits[2 * i + 1];
-        if !(is_digit(high) & is_digit(low)) {
-            return false;
-        }
-        bytes[i] = pair_value(high, low);
-        i += 1;
-    }
-    true
 }
 
 // Four bytes from a place on.

@@ -22,9 +22,9 @@ use Rattle.hex.specs.Frame.{bodyOf}
 use Rattle.line.specs.Calls.{callIn, lineFor, callFrom, readLine}
 use Rattle.buffer.specs.Buffer.{isNewline, lineEnd, lineAt}
 use Rattle.line.specs.Lines.{wholeLine, callAt}
-use Rattle.scan.specs.Scan.{arePairs, pairsAt, isLineAt}
+use Rattle.pairs.specs.Pairs.{arePairs, pairsAt, isLineAt}
 use Rattle.line.proofs.Reading.{no-bytes, bad-sum, good-sum, bad-digits, hex-line}
-use Rattle.scan.proofs.Places.{pairs-hex, pairs-bytes, pairs-end, pairs-length, pairs-append}
+use Rattle.pairs.proofs.Places.{pairs-hex, pairs-bytes, pairs-end, pairs-length, pairs-append}
 
 clash : _≡_ {A = Bool} true false → ⊥
 clash e = let z : _≡_ {A = ℕ} 0 1 = cc in omega arith

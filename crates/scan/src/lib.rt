@@ -1,147 +1,20 @@
 // A good call line read where it stands in a buffer, by the fixed length of its kind: no search for the newline, and no copy.
 // The public function's `requires` are met by who lends the table and has come to a place of the buffer.
 use hex::tables::TABLE_SIZE;
-use hex::word;
 use line::Call;
 use line::LineAt;
+use pairs::bare_at;
+use pairs::check_at;
+use pairs::fields_at;
+use pairs::pair_at;
+use pairs::plus;
+use pairs::two_at;
 ghost use mathlib.Core.Path.{_≡_};
-ghost use Prim.Native.Nat.{_+_, _%_, _≤_, _<_};
+ghost use Prim.Native.Nat.{_+_, _≤_, _<_};
 ghost use lib.ListN.{length};
-ghost use Rattle.hex.specs.Hex.{charValue, digitTables};
+ghost use Rattle.hex.specs.Hex.{digitTables};
 ghost use Rattle.line.specs.Lines.{callAt};
-ghost use Rattle.scan.specs.Scan.{isLineAt, pairOf, quadOf, Opened, Checked, TwoSeen, FieldsSeen};
-
-// The byte that two characters stand for, and whether they are digits.
-pub struct Pair {
-    pub byte: u8,
-    pub good: bool,
-}
-
-// The number that eight characters stand for, the sum of its bytes, and whether they are digits.
-pub struct Quad {
-    pub value: u32,
-    pub sum: u8,
-    pub good: bool,
-}
-
-// A line with two bytes behind the call byte, and whether it is one.
-pub struct Two {
-    pub first: u8,
-    pub second: u8,
-    pub good: bool,
-}
-
-// The fields that a put and a list call have in common, the sum so far, and whether all are digits.
-pub struct Fields {
-    pub first: u8,
-    pub poc: u32,
-    pub second: u8,
-    pub word: u32,
-    pub sum: u8,
-    pub good: bool,
-}
-
-fn char_value_in(tables: &[u16; TABLE_SIZE], c: u8) -> u16
-    requires { ⌜ now tables ≡ digitTables ⌝ }
-    ensures { λ r. ⌜ r ≡ charValue c ⌝ }
-{
-    tables[c as usize]
-}
-
-fn pair_at(tables: &[u16; TABLE_SIZE], buffer: &[u8], at: usize) -> Pair
-    requires { ⌜ (now tables ≡ digitTables) × (at + 1 < length (now buffer)) ⌝ }
-    ensures { λ r. ⌜ r ≡ pairOf (now (buffer .entry)) at ⌝ }
-{
-    let high = char_value_in(tables, buffer[at]);
-    let low = char_value_in(tables, buffer[at + 1]);
-    Pair {
-        byte: (high % 16 * 16 + low % 16) as u8,
-        good: (high < 16) & (low < 16),
-    }
-}
-
-fn plus(a: u8, b: u8) -> u8
-    ensures { λ r. ⌜ r ≡ (a + b) % 256 ⌝ }
-{
-    std::num::wrapping_add_u8(a, b)
-}
-
-fn quad_at(tables: &[u16; TABLE_SIZE], buffer: &[u8], at: usize) -> Quad
-    requires { ⌜ (now tables ≡ digitTables) × (at + 7 < length (now buffer)) ⌝ }
-    ensures { λ r. ⌜ r ≡ quadOf (now (buffer .entry)) at ⌝ }
-{
-    let a = pair_at(tables, buffer, at);
-    let b = pair_at(tables, buffer, at + 2);
-    let c = pair_at(tables, buffer, at + 4);
-    let d = pair_at(tables, buffer, at + 6);
-    Quad {
-        value: word(a.byte, b.byte, c.byte, d.byte),
-        sum: plus(plus(a.byte, b.byte), plus(c.byte, d.byte)),
-        good: a.good & b.good & c.good & d.good,
-    }
-}
-
-// Whether a line ends here: the check byte, which brings the sum to zero, and the newline.
-fn check_at(tables: &[u16; TABLE_SIZE], buffer: &[u8], at: usize, sum: u8, good: bool) -> bool
-    requires { ⌜ (now tables ≡ digitTables) × (at + 2 < length (now buffer)) ⌝ }
-    ensures { λ r. ⌜ Checked (now (buffer .entry)) at sum good r ⌝ }
-{
-    let check = pair_at(tables, buffer, at);
-    good & check.good & (plus(sum, check.byte) == 0) & (buffer[at + 2] == b'\n')
-}
-
-// A line with no field.
-fn bare_at(tables: &[u16; TABLE_SIZE], buffer: &[u8], at: usize, call: u8) -> bool
-    requires { ⌜ (now tables ≡ digitTables) × Opened (now buffer) at call × (at ≤ length (now buffer)) ⌝ }
-    ensures { λ r. ⌜ r ≡ isLineAt (now (buffer .entry)) at 2 ⌝ }
-{
-    if buffer.len() - at < 5 {
-        return false;
-    }
-    check_at(tables, buffer, at + 2, call, true)
-}
-
-fn two_at(tables: &[u16; TABLE_SIZE], buffer: &[u8], at: usize, call: u8) -> Two
-    requires { ⌜ (now tables ≡ digitTables) × Opened (now buffer) at call × (at ≤ length (now buffer)) ⌝ }
-    ensures { λ r. ⌜ TwoSeen (now (buffer .entry)) at r ⌝ }
-{
-    if buffer.len() - at < 9 {
-        return Two {
-            first: 0,
-            second: 0,
-            good: false,
-        };
-    }
-    let first = pair_at(tables, buffer, at + 2);
-    let second = pair_at(tables, buffer, at + 4);
-    let sum = plus(plus(call, first.byte), second.byte);
-    Two {
-        first: first.byte,
-        second: second.byte,
-        good: check_at(tables, buffer, at + 6, sum, first.good & second.good),
-    }
-}
-
-fn fields_at(tables: &[u16; TABLE_SIZE], buffer: &[u8], at: usize, call: u8) -> Fields
-    requires { ⌜ (now tables ≡ digitTables) × Opened (now buffer) at call × (at + 22 ≤ length (now buffer)) ⌝ }
-    ensures { λ r. ⌜ FieldsSeen (now (buffer .entry)) at r ⌝ }
-{
-    let first = pair_at(tables, buffer, at + 2);
-    let poc = quad_at(tables, buffer, at + 4);
-    let second = pair_at(tables, buffer, at + 12);
-    let word = quad_at(tables, buffer, at + 14);
-    Fields {
-        first: first.byte,
-        poc: poc.value,
-        second: second.byte,
-        word: word.value,
-        sum: plus(
-            plus(plus(plus(call, first.byte), poc.sum), second.byte),
-            word.sum,
-        ),
-        good: first.good & poc.good & second.good & word.good,
-    }
-}
+ghost use Rattle.pairs.specs.Pairs.{Opened};
 
 fn init_at(tables: &[u16; TABLE_SIZE], buffer: &[u8], at: usize) -> LineAt
     requires { ⌜ (now tables ≡ digitTables) × Opened (now buffer) at 1 × (at ≤ length (now buffer)) ⌝ }

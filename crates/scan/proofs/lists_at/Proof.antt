@@ -2,9 +2,10 @@
 use Prim.Native.Nat.{_+_, _%_}
 use native.Mathlib.Omega.{arith}
 use mathlib.Core.Path.{_≡_, refl, sym, ap, _∙_}
-use Rattle.scan.specs.declared.Pair.{Pair}
-use Rattle.scan.specs.Scan.{isLineAt}
-use Rattle.scan.proofs.Scanning.{summed-pair, lists-at, cut}
+use Rattle.pairs.specs.declared.Pair.{Pair}
+use Rattle.pairs.specs.Pairs.{isLineAt}
+use Rattle.pairs.proofs.Summing.{summed-pair, cut}
+use Rattle.scan.proofs.Scanning.{lists-at}
 use borrow.Author.Needs.{needs}
 use Rattle.scan.proofs.lists_at.Statement.{statement}
 use Rattle.scan.proofs.lists_at.Tie as tie

@@ -5,8 +5,9 @@ use mathlib.Core.Bool.{not, _&&_}
 use lib.Dec.{ltb}
 use Rattle.hex.specs.Frame.{byteAt}
 use Rattle.line.specs.Calls.{badFlags}
-use Rattle.scan.specs.Scan.{pairsAt, isLineAt}
-use Rattle.scan.proofs.Scanning.{put-at, cut}
+use Rattle.pairs.specs.Pairs.{pairsAt, isLineAt}
+use Rattle.scan.proofs.Scanning.{put-at}
+use Rattle.pairs.proofs.Summing.{cut}
 use borrow.Author.Needs.{needs}
 use Rattle.scan.proofs.put_at.Statement.{statement}
 use Rattle.scan.proofs.put_at.Tie as tie

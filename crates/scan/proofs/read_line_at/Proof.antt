@@ -5,7 +5,7 @@ use native.Mathlib.Omega.{arith}
 use mathlib.Core.Path.{_≡_, refl, sym}
 use lib.ListN.{length}
 use Rattle.hex.specs.Hex.{digitTables}
-use Rattle.scan.specs.Scan.{Opened}
+use Rattle.pairs.specs.Pairs.{Opened}
 use Rattle.scan.proofs.Scanning.{opened, no-open}
 use borrow.Author.Needs.{needs}
 use Rattle.scan.proofs.read_line_at.Statement.{statement}

@@ -1,4 +1,4 @@
--- `scan::char_value_in` meets its contract. Assumes nothing.
+-- `pairs::char_value_in` meets its contract. Assumes nothing.
 use Prim.Native.Nat.{_<_}
 use native.Mathlib.Omega.{arith}
 use mathlib.Core.Path.{_≡_, ap, _∙_}
@@ -9,8 +9,8 @@ use borrow.Author.Tests.{lt-ltb}
 use Rattle.seq.specs.Table.{entry}
 use Rattle.hex.specs.Hex.{tableEntry, charValue, digitTables}
 use borrow.Author.Needs.{needs}
-use Rattle.scan.proofs.char_value_in.Statement.{statement}
-use Rattle.scan.proofs.char_value_in.Tie as tie
+use Rattle.pairs.proofs.char_value_in.Statement.{statement}
+use Rattle.pairs.proofs.char_value_in.Tie as tie
 
 mul-result : tie.Need-mul-result
 mul-result c = search needs

@@ -1,10 +1,10 @@
--- `scan::pair_at` meets its contract. Assumes nothing.
+-- `pairs::pair_at` meets its contract. Assumes nothing.
 use lib.ListN.{getD}
 use Prim.Native.Nat.{_+_}
-use Rattle.scan.proofs.Places.{digit-test}
+use Rattle.pairs.proofs.Places.{digit-test}
 use borrow.Author.Needs.{needs}
-use Rattle.scan.proofs.pair_at.Statement.{statement}
-use Rattle.scan.proofs.pair_at.Tie as tie
+use Rattle.pairs.proofs.pair_at.Statement.{statement}
+use Rattle.pairs.proofs.pair_at.Tie as tie
 
 shared-slice-read-char-value-in : tie.Need-shared-slice-read-char-value-in
 shared-slice-read-char-value-in c = search needs

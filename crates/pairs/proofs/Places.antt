@@ -16,7 +16,7 @@ use Rattle.seq.specs.Lowest.{lowest-hit, lowest-miss}
 use Rattle.hex.specs.Hex.{isDigit, digitValue, charValue, bytesOf}
 use Rattle.hex.specs.Frame.{byteAt}
 use Rattle.buffer.specs.Buffer.{isNewline}
-use Rattle.scan.specs.Scan.{isPair, pairAt, arePairs, pairsAt}
+use Rattle.pairs.specs.Pairs.{isPair, pairAt, arePairs, pairsAt}
 use Rattle.hex.proofs.HexLaws.{digit-fits, each-digit}
 
 -- The value of a digit, as the table has it.

@@ -1,4 +1,5 @@
--- What the reader of whole lines finds of a line on its way: bytes and numbers at their places, the sum so far, and whether all are digits.
+-- Pairs of digits at places of a buffer, and what the reader of whole lines finds of a line on its way: bytes and numbers at their
+-- places, the sum so far, and whether all are digits.
 -- Assumes nothing.
 use Prim.Native.Nat.{ℕ, suc, zero, _+_, _*_, _%_}
 use mathlib.Core.Path.{_≡_}
@@ -6,7 +7,7 @@ use mathlib.Core.Bool.{Bool, true, _&&_}
 use mathlib.Core.List.{List, [], _∷_}
 use lib.Dec.{eqb}
 use lib.ListN.{getD}
-use Rattle.scan.specs.declared.{Pair.Pair, Quad.Quad, Two.Two, Fields.Fields}
+use Rattle.pairs.specs.declared.{Pair.Pair, Quad.Quad, Two.Two, Fields.Fields}
 use Rattle.hex.specs.Hex.{isDigit, charValue, word, sum8}
 use Rattle.hex.specs.Frame.{byteAt, wordAt}
 use Rattle.buffer.specs.Buffer.{isNewline}

@@ -1,11 +1,11 @@
--- `scan::check_at` meets its contract. Assumes nothing.
+-- `pairs::check_at` meets its contract. Assumes nothing.
 use Prim.Native.Nat.{_+_, _%_}
 use mathlib.Core.Path.{ap, _∙_}
-use Rattle.scan.specs.declared.Pair.{Pair}
-use Rattle.scan.proofs.Scanning.{ends}
+use Rattle.pairs.specs.declared.Pair.{Pair}
+use Rattle.pairs.proofs.Summing.{ends}
 use borrow.Author.Needs.{needs}
-use Rattle.scan.proofs.check_at.Statement.{statement}
-use Rattle.scan.proofs.check_at.Tie as tie
+use Rattle.pairs.proofs.check_at.Statement.{statement}
+use Rattle.pairs.proofs.check_at.Tie as tie
 
 pair-at-requires : tie.Need-pair-at-requires
 pair-at-requires c κs = search needs
