@@ -6,7 +6,8 @@ use mathlib.Core.List.{List}
 use lib.Dec.{ltb}
 use lib.ListN.{length}
 use Rattle.seq.specs.Lists.{lowest}
-pub use Rattle.buffer.specs.Buffer.{newline, isNewline, lastLine, linesFrom, lineEnd, lineAt}
+pub use Rattle.buffer.specs.Buffer.{newline, isNewline, lastLine, lineEnd, lineAt}
+unfoldable pub use Rattle.buffer.specs.Buffer.{linesFrom}
 use Rattle.line.specs.declared.Line.{Line}
 use Rattle.line.specs.declared.Line.the-variants.{Good, Bad}
 use Rattle.line.specs.declared.LineAt.{LineAt}
