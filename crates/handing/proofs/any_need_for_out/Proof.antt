@@ -1,4 +1,4 @@
--- `picman::out::any_need_for_out` meets its contract: some passed so far is wanted, or some of the rest is. Assumes nothing.
+-- `handing::any_need_for_out` meets its contract: some passed so far is wanted, or some of the rest is. Assumes nothing.
 use mathlib.Core.Path.{_≡_, sym, _∙_}
 use mathlib.Core.Bool.{_||_}
 use Prim.Native.Nat.{_-_, _≤_}
@@ -8,8 +8,8 @@ use lib.ListN.{length, drop}
 use Rattle.seq.specs.Lists.{any}
 use Rattle.seq.specs.Walks.{any-step, any-end}
 use Rattle.keys.specs.Keys.{keyWanted}
-use Rattle.picman.proofs.out.any_need_for_out.Statement.{statement}
-use Rattle.picman.proofs.out.any_need_for_out.Tie as tie
+use Rattle.handing.proofs.any_need_for_out.Statement.{statement}
+use Rattle.handing.proofs.any_need_for_out.Tie as tie
 
 abbrev Inv-loop : tie.InvT-loop
 Inv-loop keys some₀ i₀ some i = (i ≤ 27) × (length keys ≡ 27) × ((some || any keyWanted (drop i keys)) ≡ any keyWanted keys)

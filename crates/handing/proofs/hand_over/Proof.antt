@@ -1,7 +1,7 @@
--- `picman::out::hand_over` meets its contract: by what its parts ensure. Assumes nothing.
+-- `handing::hand_over` meets its contract: by what its parts ensure. Assumes nothing.
 use borrow.Author.Needs.{needs}
-use Rattle.picman.proofs.out.hand_over.Statement.{statement}
-use Rattle.picman.proofs.out.hand_over.Tie as tie
+use Rattle.handing.proofs.hand_over.Statement.{statement}
+use Rattle.handing.proofs.hand_over.Tie as tie
 
 mul-k : tie.Need-mul-k
 mul-k c = search needs

@@ -1,7 +1,7 @@
--- `picman::out::is_due` meets its contract. Assumes nothing.
+-- `handing::is_due` meets its contract. Assumes nothing.
 use borrow.Author.Needs.{needs}
-use Rattle.picman.proofs.out.is_due.Statement.{statement}
-use Rattle.picman.proofs.out.is_due.Tie as tie
+use Rattle.handing.proofs.is_due.Statement.{statement}
+use Rattle.handing.proofs.is_due.Tie as tie
 
 is-wanted-requires : tie.Need-is-wanted-requires
 is-wanted-requires c κs = search needs

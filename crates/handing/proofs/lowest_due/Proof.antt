@@ -1,4 +1,4 @@
--- `picman::out::lowest_due` meets its contract: what the search finds from here is what it finds from the start. Assumes nothing.
+-- `handing::lowest_due` meets its contract: what the search finds from here is what it finds from the start. Assumes nothing.
 use mathlib.Core.Path.{_≡_, sym, _∙_}
 use Prim.Native.Nat.{_+_, _-_, _≤_}
 use native.Mathlib.Omega.{arith}
@@ -6,9 +6,9 @@ use borrow.Author.Needs.{needs}
 use lib.ListN.{length, drop}
 use Rattle.seq.specs.Lists.{lowest}
 use Rattle.seq.specs.Lowest.{lowest-hit, lowest-miss, lowest-end}
 use Rattle.picman.specs.OnKeys.{keyDue}
-use Rattle.picman.proofs.out.lowest_due.Statement.{statement}
-use Rattle.picman.proofs.out.lowest_due.Tie as tie
+use Rattle.handing.proofs.lowest_due.Statement.{statement}
+use Rattle.handing.proofs.lowest_due.Tie as tie
 
 abbrev Inv-loop : tie.InvT-loop
 Inv-loop keys next i₀ i = (i ≤ 27) × (length keys ≡ 27) × (i + lowest (keyDue next) (drop i keys) ≡ lowest (keyDue next) keys)

@@ -1,14 +1,14 @@
--- `picman::out::out` meets its contract: case by case, by what its parts ensure. Assumes nothing.
+-- `handing::out` meets its contract: case by case, by what its parts ensure. Assumes nothing.
 use mathlib.Core.Path.{sym, ap, _∙_}
 use Prim.Native.Nat.{_<_, _≤_}
 use native.Mathlib.Omega.{arith}
 use borrow.Author.Needs.{needs}
 use lib.ListN.{length, length-set}
 use Rattle.seq.specs.Lists.{lowest}
 use Rattle.picman.specs.OnKeys.{keyDue}
 use Rattle.picman.proofs.OutOnKeys.{due-fits, on-due, on-not-yet, on-no-more}
-use Rattle.picman.proofs.out.out.Statement.{statement}
-use Rattle.picman.proofs.out.out.Tie as tie
+use Rattle.handing.proofs.out.Statement.{statement}
+use Rattle.handing.proofs.out.Tie as tie
 
 hit : (c : tie.Then1) → lowest (keyDue (c .before .before .before .before .args .rest .«poc_next_output»)) (c .before .before .before .before .args .keys .now) < 27
 hit c = let e = c .before .lowest-due .ensures in omega (arith, c .if1 .taken)

@@ -1,4 +1,4 @@
--- `picman::get::get` meets its contract: case by case, by what its parts ensure. Assumes nothing.
+-- `leasing::get` meets its contract: case by case, by what its parts ensure. Assumes nothing.
 use mathlib.Core.Path.{_≡_, sym, ap, _∙_}
 use mathlib.Core.Bool.{false}
 use Prim.Native.Nat.{_<_, _≤_}
@@ -8,9 +8,9 @@ use lib.ListN.{length}
 use Rattle.seq.specs.Lists.{lowest}
 use Rattle.seq.specs.Changes.{remove-length}
 use Rattle.keys.specs.Keys.{keyIdle, keyPresent}
 use Rattle.picman.proofs.GetOnKeys.{on-leased, reuse-size, reuse-number, on-idle, on-full, free-below, on-new}
-use Rattle.picman.proofs.get.get.Statement.{statement}
-use Rattle.picman.proofs.get.get.Tie as tie
+use Rattle.leasing.proofs.get.Statement.{statement}
+use Rattle.leasing.proofs.get.Tie as tie
 
 free : (c : tie.Else1) → keyPresent (c .before .before .before .before .args .rest .lease) ≡ false
 free c = sym (c .before .is-present .ensures) ∙ c .if1 .left

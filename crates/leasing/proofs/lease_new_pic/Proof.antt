@@ -1,4 +1,4 @@
--- `picman::get::lease_new_pic` meets its contract: by what its parts ensure. Assumes nothing.
+-- `leasing::lease_new_pic` meets its contract: by what its parts ensure. Assumes nothing.
 use mathlib.Core.Path.{ap, _∙_}
 use native.Mathlib.Omega.{arith}
 use borrow.Author.Needs.{needs}
@@ -6,8 +6,8 @@ use Prim.Native.Nat.{_*_}
 use lib.ListN.{length, replicate}
 use lib.Seq.{length-paste}
 use Rattle.keys.specs.Keys.{rowLength}
-use Rattle.picman.proofs.get.lease_new_pic.Statement.{statement}
-use Rattle.picman.proofs.get.lease_new_pic.Tie as tie
+use Rattle.leasing.proofs.lease_new_pic.Statement.{statement}
+use Rattle.leasing.proofs.lease_new_pic.Tie as tie
 
 free-buffer-requires : tie.Need-free-buffer-requires
 free-buffer-requires c κs = search needs

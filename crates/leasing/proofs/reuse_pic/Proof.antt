@@ -1,11 +1,11 @@
--- `picman::get::reuse_pic` meets its contract: by what its parts ensure. Assumes nothing.
+-- `leasing::reuse_pic` meets its contract: by what its parts ensure. Assumes nothing.
 use mathlib.Core.Path.{ap, _∙_}
 use native.Mathlib.Omega.{arith}
 use borrow.Author.Needs.{needs}
 use lib.ListN.{length}
 use Rattle.seq.specs.Changes.{remove-length}
-use Rattle.picman.proofs.get.reuse_pic.Statement.{statement}
-use Rattle.picman.proofs.get.reuse_pic.Tie as tie
+use Rattle.leasing.proofs.reuse_pic.Statement.{statement}
+use Rattle.leasing.proofs.reuse_pic.Tie as tie
 
 mul-k : tie.Need-mul-k
 mul-k c = search needs

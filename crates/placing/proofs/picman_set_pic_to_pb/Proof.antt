@@ -1,11 +1,11 @@
--- `picman::put::picman_set_pic_to_pb` meets its contract: the row is written, the key made, and the rest follows. Assumes nothing.
+-- `placing::picman_set_pic_to_pb` meets its contract: the row is written, the key made, and the rest follows. Assumes nothing.
 use Prim.Native.Nat.{_<_}
 use native.Mathlib.Omega.{arith}
 use borrow.Author.Needs.{needs}
 use Rattle.keys.proofs.KeyLaws.{small}
 use Rattle.picman.proofs.PutOnKeys.{pic-placed}
-use Rattle.picman.proofs.put.picman_set_pic_to_pb.Statement.{statement}
-use Rattle.picman.proofs.put.picman_set_pic_to_pb.Tie as tie
+use Rattle.placing.proofs.picman_set_pic_to_pb.Statement.{statement}
+use Rattle.placing.proofs.picman_set_pic_to_pb.Tie as tie
 
 layer-fits : (c : tie.Start) → c .args .call .«temporal_id» < 256
 layer-fits c = search needs

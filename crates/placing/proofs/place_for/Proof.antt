@@ -1,9 +1,9 @@
--- `picman::put::place_for` meets its contract: the tests in their order. Assumes nothing.
+-- `placing::place_for` meets its contract: the tests in their order. Assumes nothing.
 use mathlib.Core.Path.{sym, _∙_}
 use borrow.Author.Needs.{needs}
 use borrow.Author.Tests.{not-true, not-false}
-use Rattle.picman.proofs.put.place_for.Statement.{statement}
-use Rattle.picman.proofs.put.place_for.Tie as tie
+use Rattle.placing.proofs.place_for.Statement.{statement}
+use Rattle.placing.proofs.place_for.Tie as tie
 
 highest-empty-requires : tie.Need-highest-empty-requires
 highest-empty-requires c κs = search needs

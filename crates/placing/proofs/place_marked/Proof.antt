@@ -1,12 +1,12 @@
--- `picman::put::place_marked` meets its contract: taken, or placed. Assumes nothing.
+-- `placing::place_marked` meets its contract: taken, or placed. Assumes nothing.
 use mathlib.Core.Path.{sym, _∙_}
 use native.Mathlib.Omega.{arith}
 use borrow.Author.Needs.{needs}
 use Rattle.keys.specs.Keys.{Sized}
 use Rattle.picman.specs.OnKeys.{withRefs}
 use Rattle.picman.proofs.PutOnKeys.{room-for, reference-in, on-taken, on-placed}
-use Rattle.picman.proofs.put.place_marked.Statement.{statement}
-use Rattle.picman.proofs.put.place_marked.Tie as tie
+use Rattle.placing.proofs.place_marked.Statement.{statement}
+use Rattle.placing.proofs.place_marked.Tie as tie
 
 -- the marked keys and the rows
 marked-sized : (c : tie.Start) → Sized (c .args .next .now) (c .args .rows .now)

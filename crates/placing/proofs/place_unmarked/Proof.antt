@@ -1,10 +1,10 @@
--- `picman::put::place_unmarked` meets its contract: placed, or taken. Assumes nothing.
+-- `placing::place_unmarked` meets its contract: placed, or taken. Assumes nothing.
 use mathlib.Core.Path.{sym, _∙_}
 use native.Mathlib.Omega.{arith}
 use borrow.Author.Needs.{needs}
 use Rattle.picman.proofs.PutOnKeys.{room-for, reference-in, on-taken, on-placed}
-use Rattle.picman.proofs.put.place_unmarked.Statement.{statement}
-use Rattle.picman.proofs.put.place_unmarked.Tie as tie
+use Rattle.placing.proofs.place_unmarked.Statement.{statement}
+use Rattle.placing.proofs.place_unmarked.Tie as tie
 
 place-for-requires : tie.Need-place-for-requires
 place-for-requires c κs =

@@ -1,12 +1,12 @@
--- `picman::put::put` meets its contract: each return by the tests that lead to it. Assumes nothing.
+-- `putting::put` meets its contract: each return by the tests that lead to it. Assumes nothing.
 use mathlib.Core.Path.{_≡_, sym, _∙_}
 use mathlib.Core.Bool.{true}
 use borrow.Author.Needs.{needs}
 use borrow.Author.Tests.{not-true, not-false}
 use Rattle.keys.specs.Keys.{keyPresent, stands}
 use Rattle.picman.proofs.PutOnKeys.{on-nothing, on-high, on-unleased, on-marked, not-marked, marked-whole}
-use Rattle.picman.proofs.put.put.Statement.{statement}
-use Rattle.picman.proofs.put.put.Tie as tie
+use Rattle.putting.proofs.put.Statement.{statement}
+use Rattle.putting.proofs.put.Tie as tie
 
 has-pic : (c : tie.Else1) → c .before .before .before .before .before .args .call .«has_pic» ≡ true
 has-pic c = not-false _ (c .if1 .left)

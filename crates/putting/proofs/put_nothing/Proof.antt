@@ -1,12 +1,12 @@
--- `picman::put::put_nothing` meets its contract: marked or not. Assumes nothing.
+-- `putting::put_nothing` meets its contract: marked or not. Assumes nothing.
 use mathlib.Core.Path.{refl, sym, ap, _∙_}
 use borrow.Author.Needs.{needs}
 use borrow.Author.Tests.{not-true, not-false}
 use lib.ListN.{length}
 use Rattle.keys.specs.Keys.{stands}
 use Rattle.picman.proofs.PutOnKeys.{not-marked}
-use Rattle.picman.proofs.put.put_nothing.Statement.{statement}
-use Rattle.picman.proofs.put.put_nothing.Tie as tie
+use Rattle.putting.proofs.put_nothing.Statement.{statement}
+use Rattle.putting.proofs.put_nothing.Tie as tie
 
 marks-anew-requires : tie.Need-marks-anew-requires
 marks-anew-requires c κs = search needs

@@ -1,10 +1,10 @@
--- `picman::put::remark` meets its contract: flush or marking. Assumes nothing.
+-- `putting::remark` meets its contract: flush or marking. Assumes nothing.
 use mathlib.Core.Path.{sym, ap, _∙_}
 use borrow.Author.Needs.{needs}
 use lib.ListN.{length}
 use Rattle.picman.proofs.PutOnKeys.{remarked-idr, remarked-mark}
-use Rattle.picman.proofs.put.remark.Statement.{statement}
-use Rattle.picman.proofs.put.remark.Tie as tie
+use Rattle.putting.proofs.remark.Statement.{statement}
+use Rattle.putting.proofs.remark.Tie as tie
 
 picman-flush-pb-requires : tie.Need-picman-flush-pb-requires
 picman-flush-pb-requires c κs = search needs
