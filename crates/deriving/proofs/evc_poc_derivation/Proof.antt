@@ -1,4 +1,4 @@
--- `poc::evc_poc_derivation` meets its contract: a walk of its MIR, by hand. The borrow is opened and the record copied out; `poc_derivation` is called on the copy;
+-- `deriving::evc_poc_derivation` meets its contract: a walk of its MIR, by hand. The borrow is opened and the record copied out; `poc_derivation` is called on the copy;
 -- the three numbers of the record that it returned are stored behind the reference, one store each; and the borrow is closed at that record.
 -- All that the proof knows of `poc_derivation` is that it meets its contract: `derive` stays shut.
 -- Assumes nothing.
@@ -44,22 +44,22 @@ use denote.Exit.{yes}
 use Rattle.def.specs.declared.EvcPoc.{EvcPoc}
 use Rattle.def.proofs.EvcPoc as P
 use Rattle.def.proofs.EvcPoc.Laws as P′
 use Rattle.poc.specs.PictureNumber.{derive}
 use Rattle.poc.specs.declared.Derivation.{Derivation}
 use Rattle.poc.specs.declared.PocAnswer.{PocAnswer}
 use Rattle.poc.proofs.Derivation as D
 use Rattle.poc.proofs.Derivation.Laws as D′
 use Rattle.poc.proofs.PocAnswer as N
 use Rattle.poc.proofs.PocAnswer.Laws as N′
-use Rattle.poc.proofs.poc_derivation as by-value
-use Rattle.poc.proofs.poc_derivation.Symbol as by-value-def
-use Rattle.poc.proofs.poc_derivation.Symbol.{name as #poc·poc-derivation}
-use Rattle.poc.proofs.poc_derivation.Met as by-value-thm
-use Rattle.poc.proofs.evc_poc_derivation.Key.{name as #poc·evc-poc-derivation}
-use Rattle.poc.proofs.evc_poc_derivation as lent
-use Rattle.poc.proofs.evc_poc_derivation.Statement as stated
-use Rattle.poc.proofs.evc_poc_derivation.Code as code
-use Rattle.poc.proofs.evc_poc_derivation.Code.Mir as walked-mir
+use Rattle.deriving.proofs.poc_derivation as by-value
+use Rattle.deriving.proofs.poc_derivation.Symbol as by-value-def
+use Rattle.deriving.proofs.poc_derivation.Symbol.{name as #deriving·poc-derivation}
+use Rattle.deriving.proofs.poc_derivation.Met as by-value-thm
+use Rattle.deriving.proofs.evc_poc_derivation.Key.{name as #deriving·evc-poc-derivation}
+use Rattle.deriving.proofs.evc_poc_derivation as lent
+use Rattle.deriving.proofs.evc_poc_derivation.Statement as stated
+use Rattle.deriving.proofs.evc_poc_derivation.Code as code
+use Rattle.deriving.proofs.evc_poc_derivation.Code.Mir as walked-mir
 
 abbrev Arg : Type 0
 Arg = ℕ × (ℕ × (RefT EvcPoc × Unit {0}))
@@ -126,7 +126,7 @@ module _ {M : Type 1} (𝓤 : URA M) (H : Heap 𝓤) (A : Atoms 𝓤) (W : Given
       feqI ! (List Val) (vptr b o ∷ []) (vptr b o ∷ []) refl $ fjoin3 ! $ nothing ! $ move ! (1 ∷ 0 ∷ []) $ fjoin ! $ owned ! u8 (Is u8) (uint-makes 𝓤 H A W w8) t _ (refl, t-fits) $ fjoin ! $
       owned ! u8 (Is u8) (uint-makes 𝓤 H A W w8) n _ (refl, n-fits) $ fjoin ! $ owned ! N.the-row (Is N.the-row) (EL.makes N.the-type N′.the-plain 𝓤 H A) (d .answer) _ is $ move ! (1 ∷ 0 ∷ []) $ done !
 
-  module _ (C : Calls 𝓤 H) (Λ : Loops 𝓤 H) (fm : FmC 𝓤 H (W .laws) C) (known : Triple 𝓤 (C #poc·poc-derivation) (ByValue 𝓤 H A at-mem run)) where
+  module _ (C : Calls 𝓤 H) (Λ : Loops 𝓤 H) (fm : FmC 𝓤 H (W .laws) C) (known : Triple 𝓤 (C #deriving·poc-derivation) (ByValue 𝓤 H A at-mem run)) where
     walk : ent 𝓤 (onEntry 𝓤 H A lent.signature (κ, tt) (q, tt) x at) (WpFn 𝓤 H C Λ code.function (vint w8 n ∷ vint w8 t ∷ vptr b o ∷ []) Post)
     walk =
         qed W ((‵ (flft κ q) ⊛ ‵ ftrue) ∷ ‵ (owns (u8 ∷ u8 ∷ MutRef (named 0) κ P.the-row ∷ []) x at) ∷ []) ∵ split ! $ move ! (2 ∷ []) $
@@ -167,7 +167,7 @@ module _ {M : Type 1} (𝓤 : URA M) (H : Heap 𝓤) (A : Atoms 𝓤) (W : Given
         keep ! (0 ∷ 1 ∷ 2 ∷ []) $ by ! (exits d e (answer-is d v is))))))))))))))))
 
 module _ {M : Type 1} (𝓤 : URA M) (H : Heap 𝓤) (A : Atoms 𝓤) (W : Given 𝓤 H A) (at-mem : Memory → SProp 𝓤) (run : Routine → Fun 𝓤) where
-  lent-walks : (C : Calls 𝓤 H) (Λ : Loops 𝓤 H) → FmC 𝓤 H (W .laws) C → Triple 𝓤 (C #poc·poc-derivation) (ByValue 𝓤 H A at-mem run)
+  lent-walks : (C : Calls 𝓤 H) (Λ : Loops 𝓤 H) → FmC 𝓤 H (W .laws) C → Triple 𝓤 (C #deriving·poc-derivation) (ByValue 𝓤 H A at-mem run)
       → Walks 𝓤 H A lent.ended stayed (WpFn 𝓤 H C Λ code.function) (lent.clauses 𝓤 H A at-mem run)
   lent-walks C Λ fm known = walked 𝓤 H A lent.ended stayed (lent.clauses 𝓤 H A at-mem run) (WpFn 𝓤 H C Λ code.function)
       (λ κs. (uint-vals w8, (uint-vals w8, (ptr-vals, tt)))) (λ κs. (uint-tells w8, (uint-tells w8, (mut-tells (named 0) (κs .0) P.the-row, tt))))
@@ -178,7 +178,7 @@ module _ {M : Type 1} (𝓤 : URA M) (H : Heap 𝓤) (A : Atoms 𝓤) (W : Given
   goes = (goes-none 𝓤 H A W 1 (λ _. u8) yes (λ κs x f. refl), (goes-none 𝓤 H A W 1 (λ _. u8) yes (λ κs x f. refl), (goes-ref 𝓤 H A W 1 0 tt (plain (λ _. P.the-row)), tt)))
 
 lent-meets : {M : Type 1} (𝓤 : URA M) (H : Heap 𝓤) (A : Atoms 𝓤) → Given 𝓤 H A → (at-mem : Memory → SProp 𝓤) (run : Routine → Fun 𝓤) (𝓣 : Tables 𝓤 H)
-    → Triple 𝓤 (𝓣 .C #poc·poc-derivation) (ByValue 𝓤 H A at-mem run) → Meets 𝓤 H A lent.signature (WpFn 𝓤 H (𝓣 .C) (𝓣 .Λ) code.function) (lent.spec 𝓤 H A at-mem run)
+    → Triple 𝓤 (𝓣 .C #deriving·poc-derivation) (ByValue 𝓤 H A at-mem run) → Meets 𝓤 H A lent.signature (WpFn 𝓤 H (𝓣 .C) (𝓣 .Λ) code.function) (lent.spec 𝓤 H A at-mem run)
 lent-meets 𝓤 H A W at-mem run 𝓣 known =
     walk-meets 𝓤 H A lent.ended stayed W (goes 𝓤 H A W at-mem run) (lent.clauses 𝓤 H A at-mem run) (WpFn 𝓤 H (𝓣 .C) (𝓣 .Λ) code.function) (WpFn-mono 𝓤 H (W .laws) 𝓣 code.function)
     (lent-walks 𝓤 H A W at-mem run (𝓣 .C) (𝓣 .Λ) (fmOf 𝓤 H (W .laws) 𝓣) known)
@@ -187,6 +187,6 @@ pub evc-poc-derivation-spec : {M : Type 1} → stated.statement M
 unfolding code.routine tablesOf
 evc-poc-derivation-spec 𝓤 H 𝓜 𝓖 𝓡 =
     entered 𝓤 H (tripleOf 𝓤 H (𝓖 .A) lent.signature (lent.spec 𝓤 H (𝓖 .A) (𝓜 .mem) (𝓡 .run)))
-    (tables 𝓤 H 𝓜 𝓡 code.env .C) (tables 𝓤 H 𝓜 𝓡 code.env .Λ) #poc·evc-poc-derivation code.function (code.unfolded 𝓤 H 𝓜 𝓡)
+    (tables 𝓤 H 𝓜 𝓡 code.env .C) (tables 𝓤 H 𝓜 𝓡 code.env .Λ) #deriving·evc-poc-derivation code.function (code.unfolded 𝓤 H 𝓜 𝓡)
     (lent-meets 𝓤 H (𝓖 .A) (givenOf 𝓤 H 𝓜 𝓖) (𝓜 .mem) (𝓡 .run) (tablesOf 𝓤 H 𝓜 (tables 𝓤 H 𝓜 𝓡 code.env))
-    (cited 𝓤 H (ByValue 𝓤 H (𝓖 .A) (𝓜 .mem) (𝓡 .run)) 𝓜 𝓡 code.env #poc·poc-derivation by-value-def.routine code.calls-poc·poc-derivation (by-value-thm.met 𝓤 H 𝓜 𝓖 𝓡)))
+    (cited 𝓤 H (ByValue 𝓤 H (𝓖 .A) (𝓜 .mem) (𝓡 .run)) 𝓜 𝓡 code.env #deriving·poc-derivation by-value-def.routine code.calls-deriving·poc-derivation (by-value-thm.met 𝓤 H 𝓜 𝓖 𝓡)))

@@ -1,4 +1,4 @@
--- `poc::other_picture` meets its contract: each number of the code is the definition's, step by step.
+-- `deriving::other_picture` meets its contract: each number of the code is the definition's, step by step.
 -- Assumes nothing.
 use borrow.Author.Needs.{needs}
 use mathlib.Core.Path.{_≡_, refl, sym, ap, ap₂, _∙_}
@@ -14,15 +14,15 @@ use mir.Val.{toZ, ofZ, SFits}
 use mir.ValLaws.{toZ-ofZ, toZ-pos}
 use borrow.Author.Tests.{eq-eqb, ne-eqb}
 use Rattle.def.specs.declared.EvcPoc.{EvcPoc}
 use Rattle.poc.specs.PictureNumber.{maxPoc, tooHigh, offsetOf, offsetFrom, number, nextOffset, nextPrevious}
 use Rattle.poc.specs.Domain.{Checked, OfLayer, signedOffset}
 use Rattle.poc.proofs.Offset.{offsetFrom-lands}
 use Rattle.poc.specs.Number.{accepted}
 use Rattle.poc.proofs.Settled.{settled-high, settled-fits, sum-is, sum-low, sum-mag}
 use Rattle.poc.proofs.Words.{shifted, power-le, as-signed}
-use Rattle.poc.proofs.Formula.{stays-below}
-use Rattle.poc.proofs.other_picture.Statement.{statement}
-use Rattle.poc.proofs.other_picture.Tie as tie
+use Rattle.offsets.proofs.Formula.{stays-below}
+use Rattle.deriving.proofs.other_picture.Statement.{statement}
+use Rattle.deriving.proofs.other_picture.Tie as tie
 
 -- ---- over the definitions
 

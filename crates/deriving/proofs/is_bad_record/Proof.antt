@@ -1,4 +1,4 @@
--- `poc::is_bad_record` meets its contract: an offset fits where it is neither below 0 nor above 32,767.
+-- `deriving::is_bad_record` meets its contract: an offset fits where it is neither below 0 nor above 32,767.
 -- Assumes nothing.
 use borrow.Author.Needs.{needs}
 use mathlib.Core.Path.{_≡_, refl}
@@ -11,9 +11,9 @@ use lib.Signed.{ltZ}
 use mir.Syntax.{w32}
 use mir.Val.{toZ, ofZ}
 use borrow.Author.Tests.{le-ltb, lt-ltb, leb-true, leb-false}
 use Rattle.poc.specs.PictureNumber.{offsetFits}
-use Rattle.poc.proofs.is_bad_record.Statement.{statement}
-use Rattle.poc.proofs.is_bad_record.Tie as tie
+use Rattle.deriving.proofs.is_bad_record.Statement.{statement}
+use Rattle.deriving.proofs.is_bad_record.Tie as tie
 
 outside : (n d : ℕ) → ltb n d ≡ not (leb d n)
 outside n d = go (leb d n) refl

@@ -1,4 +1,4 @@
--- `poc::float_offset` meets its contract: what the machine reads back of its numbers is them, and the formula in `f32` is exact (`proofs/Formula.antt`).
+-- `offsets::float_offset` meets its contract: what the machine reads back of its numbers is them, and the formula in `f32` is exact (`proofs/Formula.antt`).
 -- Assumes nothing.
 use borrow.Author.Needs.{needs}
 use mathlib.Core.Path.{_≡_, refl, sym, ap, _∙_, subst}
@@ -12,12 +12,12 @@ use lib.Ieee.Casts.{toSigned-in}
 use mir.Syntax.{w32}
 use mir.Val.{toZ, ofZ}
 use mir.ValLaws.{toZ-ofZ}
 use Rattle.poc.specs.PictureNumber.{offsetOf}
 use Rattle.poc.specs.Domain.{OfLayer}
 use Rattle.poc.proofs.Words.{shifted, power-le, as-signed}
-use Rattle.poc.proofs.Formula.{formula, exact}
-use Rattle.poc.proofs.float_offset.Statement.{statement}
-use Rattle.poc.proofs.float_offset.Tie as tie
+use Rattle.offsets.proofs.Formula.{formula, exact}
+use Rattle.offsets.proofs.float_offset.Statement.{statement}
+use Rattle.offsets.proofs.float_offset.Tie as tie
 
 module _ {L t : ℕ} {z : ℤ} (h : OfLayer L t z) where
   layer : t ≤ 15

@@ -1,4 +1,4 @@
--- `poc::doc_offset_from` meets its contract: the search ends where it starts, or else at the layer's first offset.
+-- `offsets::doc_offset_from` meets its contract: the search ends where it starts, or else at the layer's first offset.
 -- Assumes nothing.
 use borrow.Author.Needs.{needs}
 use mathlib.Core.Path.{_≡_, sym, ap, _∙_}
@@ -11,14 +11,14 @@ use mir.Syntax.{w32}
 use mir.Val.{toZ, ofZ}
 use mir.ValLaws.{toZ-pos}
 use borrow.Author.Tests.{eq-eqb, ne-eqb}
 use Rattle.poc.specs.PictureNumber.{offsetFrom, offsetOf}
 use Rattle.poc.specs.Domain.{Searched}
 use Rattle.poc.specs.Standard.{expectedTemporalId}
 use Rattle.poc.proofs.Seek.{expected-digits, layer-digits}
 use Rattle.poc.proofs.Offset.{inLayer-gives, inLayer-true, offsetFrom-here, offsetFrom-else}
 use Rattle.poc.proofs.Words.{shifted, power-le, as-signed}
-use Rattle.poc.proofs.doc_offset_from.Statement.{statement}
-use Rattle.poc.proofs.doc_offset_from.Tie as tie
+use Rattle.offsets.proofs.doc_offset_from.Statement.{statement}
+use Rattle.offsets.proofs.doc_offset_from.Tie as tie
 
 module _ {L t : ℕ} {z : ℤ} (h : Searched L t z) where
   small : offsetOf z < 32768

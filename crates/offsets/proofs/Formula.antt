@@ -12,9 +12,9 @@ use lib.Ieee.{Float, binary32, add, sub, mul, div, ofInt, ofBits, toSigned, inSi
 use lib.Ieee.Digits.{back}
 use lib.Ieee.Fits.{mul-fits}
 use borrow.Author.Tests.{lt-ltb}
 use Rattle.poc.specs.Domain.{OfLayer, signedOffset}
 use Rattle.poc.proofs.Seek.{twice}
-use Rattle.poc.proofs.Float.{Value, Held, mul-value, div-value, add-value, sub-value, of-value, negative-cast}
+use Rattle.offsets.proofs.Float.{Value, Held, mul-value, div-value, add-value, sub-value, of-value, negative-cast}
 
 -- 2.0 and 1.0
 abbrev two : Float

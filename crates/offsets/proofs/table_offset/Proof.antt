@@ -1,4 +1,4 @@
--- `poc::table_offset` meets its contract. The constant table is the list that `entryAt` makes: the checker computes that over all 512
+-- `offsets::table_offset` meets its contract. The constant table is the list that `entryAt` makes: the checker computes that over all 512
 -- entries where the two are compared, and `entry-is` carries it to the entry that is read. Assumes nothing.
 use borrow.Author.Needs.{needs}
 use mathlib.Core.Path.{_≡_}
@@ -7,12 +7,12 @@ use native.Mathlib.Omega.{arith}
 use lib.Ieee.{size, span, climb}
 use Rattle.seq.specs.Table.{entries, entriesFrom}
 use Rattle.def.specs.Binary.{floorLog2}
 use Rattle.poc.specs.Standard.{expectedTemporalId}
 use Rattle.poc.specs.Domain.{InTable}
 use Rattle.poc.proofs.Words.{shifted}
-use Rattle.poc.proofs.OffsetTable.{rowEntry, entryAt, in-range, entry-is, read-back}
-use Rattle.poc.proofs.table_offset.Statement.{statement}
-use Rattle.poc.proofs.table_offset.Tie as tie
+use Rattle.offsets.proofs.OffsetTable.{rowEntry, entryAt, in-range, entry-is, read-back}
+use Rattle.offsets.proofs.table_offset.Statement.{statement}
+use Rattle.offsets.proofs.table_offset.Tie as tie
 
 -- the place, as the machine has it
 place : {L d : ℕ} → InTable L d → 1 * 2 ^ L % 4294967296 + d ≡ 2 ^ L + d

@@ -1,4 +1,4 @@
--- `poc::expected_tid` meets its contract: what the leading zeros leave of a word is the digits of the number.
+-- `offsets::expected_tid` meets its contract: what the leading zeros leave of a word is the digits of the number.
 -- Assumes nothing.
 use borrow.Author.Needs.{needs}
 use mathlib.Core.Path.{_≡_, sym, _∙_}
@@ -9,9 +9,9 @@ use lib.Count.{leadingZeros, leading-le, leading-length}
 use lib.Pow.{pow-mono}
 use lib.Ieee.{size}
 use lib.Ieee.Digits.{size-lt, size-le}
 use Rattle.poc.proofs.Seek.{expected-digits}
-use Rattle.poc.proofs.expected_tid.Statement.{statement}
-use Rattle.poc.proofs.expected_tid.Tie as tie
+use Rattle.offsets.proofs.expected_tid.Statement.{statement}
+use Rattle.offsets.proofs.expected_tid.Tie as tie
 
 -- a length that is not too long is the number of digits
 no-longer : (n m : ℕ) → 2 ^ m ≤ n + n + 1 → m ≤ size n

@@ -1,4 +1,4 @@
--- `poc::poc_offset` meets its contract: by the table or in `f32` it is the same whole number.
+-- `offsets::poc_offset` meets its contract: by the table or in `f32` it is the same whole number.
 -- Assumes nothing.
 use borrow.Author.Needs.{needs}
 use mathlib.Core.Path.{_≡_, _∙_}
@@ -8,15 +8,15 @@ use lib.IntN.{ℤ, pos, natAbs}
 use lib.Pow.{pow-pos, pow-mono}
 use mir.Syntax.{w32}
 use mir.Val.{toZ, ofZ}
 use Rattle.poc.specs.PictureNumber.{offsetOf}
 use Rattle.poc.specs.Domain.{OfLayer, InTable, signedOffset}
 use Rattle.poc.specs.Standard.{expectedTemporalId}
 use Rattle.poc.proofs.Offset.{digits}
 use Rattle.poc.proofs.Seek.{expected-digits}
-use Rattle.poc.proofs.OffsetTable.{widens, widened}
+use Rattle.offsets.proofs.OffsetTable.{widens, widened}
 use Rattle.poc.proofs.Words.{power-le, as-signed}
-use Rattle.poc.proofs.poc_offset.Statement.{statement}
-use Rattle.poc.proofs.poc_offset.Tie as tie
+use Rattle.offsets.proofs.poc_offset.Statement.{statement}
+use Rattle.offsets.proofs.poc_offset.Tie as tie
 
 module _ {L t : ℕ} {z : ℤ} (h : OfLayer L t z) where
   below : offsetOf z < 2 ^ L

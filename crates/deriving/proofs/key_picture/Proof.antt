@@ -1,4 +1,4 @@
--- `poc::key_picture` meets its contract.
+-- `deriving::key_picture` meets its contract.
 -- Assumes nothing.
 use borrow.Author.Needs.{needs}
 use mathlib.Core.Path.{sym, _∙_}
@@ -8,11 +8,11 @@ use lib.IntN.{pos}
 use mir.Syntax.{w32}
 use mir.ValLaws.{toZ-pos}
 use borrow.Author.Tests.{le-ltb}
 use Rattle.poc.specs.PictureNumber.{maxPoc}
 use Rattle.poc.proofs.Settled.{settled-high, settled-fits}
 use Rattle.poc.proofs.Words.{shifted, power-le}
-use Rattle.poc.proofs.key_picture.Statement.{statement}
-use Rattle.poc.proofs.key_picture.Tie as tie
+use Rattle.deriving.proofs.key_picture.Statement.{statement}
+use Rattle.deriving.proofs.key_picture.Tie as tie
 
 shl-key : tie.Need-shl-key
 shl-key c = search needs

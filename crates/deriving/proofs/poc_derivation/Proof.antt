@@ -1,4 +1,4 @@
--- `poc::poc_derivation` meets its contract: its tests are the definition's, in the same order.
+-- `deriving::poc_derivation` meets its contract: its tests are the definition's, in the same order.
 -- Assumes nothing.
 use borrow.Author.Needs.{needs}
 use mathlib.Core.Path.{_≡_, refl, sym, _∙_}
@@ -8,10 +8,10 @@ use native.Mathlib.Omega.{arith}
 use lib.IntN.{ℤ, pos, negsuc}
 use borrow.Author.Tests.{ltb-false, leb-true, not-false, eq-eqb, ne-eqb}
 use Rattle.def.specs.declared.EvcPoc.{EvcPoc}
 use Rattle.poc.specs.PictureNumber.{derive, badLayer, badRecord, offsetFits, offsetOf, maxLog2, maxPoc, maxDocOffset}
 use Rattle.poc.specs.Domain.{Checked}
-use Rattle.poc.proofs.poc_derivation.Statement.{statement}
-use Rattle.poc.proofs.poc_derivation.Tie as tie
+use Rattle.deriving.proofs.poc_derivation.Statement.{statement}
+use Rattle.deriving.proofs.poc_derivation.Tie as tie
 
 neither : (a b : Bool) → (a || b) ≡ false → (a ≡ false) × (b ≡ false)
 neither true b e = absurd (true≢false e)

@@ -21,10 +21,10 @@ use mir.ValLaws.{toZ-ofZ}
 use Rattle.seq.specs.Numbers.{lt-or-ge}
 use Rattle.seq.specs.Table.{entries, entry}
 use Rattle.def.specs.Binary.{floorLog2}
 use Rattle.poc.specs.Standard.{expectedTemporalId}
 use Rattle.poc.specs.Domain.{OfLayer, InTable, signedOffset}
 use Rattle.poc.proofs.Seek.{expected-digits}
-use Rattle.poc.proofs.Formula.{offset-is}
+use Rattle.offsets.proofs.Formula.{offset-is}
 
 -- The row of length 2^L: nothing is added for the offset 0, and elsewhere the whole-number formula with the offset's layer.
 unfoldable pub rowEntry : ℕ → ℕ → ℤ
