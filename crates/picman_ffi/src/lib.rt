@@ -3,7 +3,7 @@
 // `holds` says that the bytes are an image again, from which the next call reads the machine that this one left.
 
 use buffer::paste;
-use entry::copy::check_copy_refp;
+use copying::check_copy_refp;
 use image::is_flag;
 use image::is_image;
 use image::read::read_pm;

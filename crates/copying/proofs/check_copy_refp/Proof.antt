@@ -1,10 +1,10 @@
--- `entry::copy::check_copy_refp` meets its contract: the entry by its parts is the entry. Assumes nothing.
+-- `copying::check_copy_refp` meets its contract: the entry by its parts is the entry. Assumes nothing.
 use Prim.Native.Nat.{_<_}
-use Rattle.entry.proofs.EntryLaws.{entry-parts}
-use Rattle.entry.proofs.Opening.{copy-comes-to}
+use Rattle.entries.proofs.EntryLaws.{entry-parts}
+use Rattle.copying.proofs.Copied.{copy-comes-to}
 use borrow.Author.Needs.{needs}
-use Rattle.entry.proofs.copy.check_copy_refp.Statement.{statement}
-use Rattle.entry.proofs.copy.check_copy_refp.Tie as tie
+use Rattle.copying.proofs.check_copy_refp.Statement.{statement}
+use Rattle.copying.proofs.check_copy_refp.Tie as tie
 
 low : (c : tie.Start) → c .args .refp-src .buf < 256
 low c = search needs

@@ -1,10 +1,10 @@
 // An entry goes to place `cnt` of one list unless its number stands among the first `cnt` entries there.
-use crate::entries::head_of;
-use crate::entries::put_lists;
-use crate::entries::take_lists;
 use def::CopyResult;
 use def::EvcRefP;
 use def::REFP_PLACES;
+use entries::head_of;
+use entries::put_lists;
+use entries::take_lists;
 use keys::ROWS;
 ghost use mathlib.Core.Path.{_≡_};
 ghost use Rattle.refp.specs.Copy.{copy};
