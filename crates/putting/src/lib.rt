@@ -17,7 +17,7 @@ use def::Refusal;
 use keys::Called;
 use keys::Rest;
 use keys::key::is_present;
-use marking::pic_marking_no_rpl;
+use limiting::pic_marking_no_rpl;
 use marking::picman_flush_pb;
 use picman::refuse;
 use placing::place_marked;
