@@ -11,6 +11,5 @@ pub mod InitLaws
 pub mod Calls
 pub mod GetOnKeys
 pub mod OutOnKeys
-mod DuePlace
 pub mod PutOnKeys
 pub mod InitOnKeys

@@ -8,7 +8,7 @@ use lib.ListN.{length}
 use Rattle.line.specs.declared.Line.{Line}
 use Rattle.line.specs.declared.Line.the-variants.{Good, Bad}
 use Rattle.line.specs.declared.Reply.{Reply}
-use Rattle.line.specs.Hex.{checkByte}
+use Rattle.hex.specs.Hex.{checkByte}
 use Rattle.line.specs.Calls.{callFrom}
 use Rattle.line.specs.Answers.{replyBytes, badLineReply}
 use Rattle.image.specs.Image.{imageLength, imageBytes, pmOf, refpOf, pocOf, isImage}

@@ -2,7 +2,8 @@
 // a function gives 18 and writes nothing. In the contracts `given` says, byte for byte, what is given and what the lent buffers hold then;
 // `holds` says that the bytes are an image again, from which the next call reads the machine that this one left.
 
-use entry::copy::check_copy_refp;
+use buffer::paste;
+use copying::check_copy_refp;
 use image::is_flag;
 use image::is_image;
 use image::read::read_pm;
@@ -14,7 +15,6 @@ use line::Call;
 use line::Line;
 use line::Reply;
 use line::answer_bytes;
-use line::buffer::paste;
 use line::read_call;
 use line::reply_of;
 use machine::Machine;

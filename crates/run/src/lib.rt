@@ -3,15 +3,13 @@
 // input into pieces comes to it.
 pub mod partial;
 
+use buffer::line_end;
 use def::Refusal;
 use def::refusal_number;
+use hex::tables::TABLE_SIZE;
 use line::Line;
 use line::LineAt;
 use line::Reply;
-use line::buffer::line_end;
-use line::scan::read_line_at;
-use line::tables::TABLE_SIZE;
-use line::write::write_reply;
 use machine::Made;
 use machine::Scalars;
 use machine::calls::make_call;
@@ -20,10 +18,12 @@ use partial::Partial;
 use partial::extended;
 use partial::no_line;
 use partial::read_with;
+use scan::read_line_at;
+use writing::write_reply;
 ghost use mathlib.Core.Path.{_≡_};
 ghost use Prim.Native.Nat.{_≤_};
 ghost use lib.ListN.{length};
-ghost use Rattle.line.specs.Hex.{digitTables};
+ghost use Rattle.hex.specs.Hex.{digitTables};
 ghost use Rattle.line.specs.Answers.{badLineReply};
 ghost use Rattle.machine.specs.Step.{stepLine};
 ghost use Rattle.machine.specs.Running.{machineIn, Runs, Makes};
