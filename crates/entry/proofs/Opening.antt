@@ -6,13 +6,11 @@ use mathlib.Core.List.{List}
 use Prim.Native.Nat.{ℕ}
 use lib.ListN.{length, length-map}
 use Rattle.def.specs.State.{slots}
-use Rattle.def.specs.declared.{EvcPm.EvcPm, EvcRefP.EvcRefP, RefpCall.RefpCall, RefpResult.RefpResult, Answer.Answer, Refusal.Refusal}
+use Rattle.def.specs.declared.{EvcPm.EvcPm, EvcRefP.EvcRefP, RefpCall.RefpCall, RefpResult.RefpResult, Refusal.Refusal}
 use Rattle.keys.specs.declared.{Called.Called}
 use Rattle.keys.specs.Keys.{slotAt, listsIn, stands, ComesLists}
 use Rattle.whole.specs.Whole.{whole}
 use Rattle.refp.specs.Lists.{refused, lists, listsWhole}
-use Rattle.refp.specs.Copy.{copy}
-use Rattle.refp.specs.Running.{CopyCame}
 use Rattle.refp.proofs.ListLaws.{lists-stay-whole}
 use Rattle.entry.specs.declared.{Opened.Opened}
 use Rattle.entry.specs.Entry.{Opens}
@@ -55,9 +53,3 @@ module _ {pm : EvcPm} {refp : List EvcRefP} {keys rows : List ℕ} {o : Opened} 
 
     pub lists-come-to : record { answer = r .answer; pm = stands keys after (r .rest); refp = listsIn after } ≡ lists pm refp c
     lists-come-to = rw (came .lists-answers, came .lists-stand-for, came .lists-are) (sym on-whole)
-
--- ---- a copy
-
-pub copy-comes-to : (answer : Answer) (refp : List EvcRefP) (rows after : List ℕ) (cnt lidx : ℕ) (e : EvcRefP) → listsIn rows ≡ refp
-    → CopyCame answer rows after (copy (listsIn rows) cnt lidx e) → record { answer = answer; refp = listsIn after } ≡ copy refp cnt lidx e
-copy-comes-to answer refp rows after cnt lidx e same came = rw (came .answers, came .lists-are) (ap (λ (x : List EvcRefP). copy x cnt lidx e) same)

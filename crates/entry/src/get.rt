@@ -18,6 +18,6 @@ pub fn evc_picman_get_empty_pic(pm: EvcPm) -> PmResult
     if !state.is_whole {
         return not_whole(pm);
     }
-    let called = picman::get::get(&mut keys, &mut rows, state.rest);
+    let called = leasing::get(&mut keys, &mut rows, state.rest);
     finished(&keys, &rows, called)
 }

@@ -1,6 +1,4 @@
 // The reference lists of a slice, by value.
-use crate::entries::put_lists;
-use crate::entries::take_lists;
 use crate::finished;
 use crate::open_state;
 use def::Answer;
@@ -10,6 +8,8 @@ use def::REFP_PLACES;
 use def::RefpCall;
 use def::RefpResult;
 use def::Refusal;
+use entries::put_lists;
+use entries::take_lists;
 use keys::PLACES;
 use keys::ROWS;
 use keys::SLOTS;

@@ -18,6 +18,6 @@ pub fn evc_picman_out_pic(pm: EvcPm) -> PmResult
     if !state.is_whole {
         return not_whole(pm);
     }
-    let called = picman::out::out(&mut keys, state.rest);
+    let called = handing::out(&mut keys, state.rest);
     finished(&keys, &rows, called)
 }

@@ -1,5 +1,4 @@
 // Put by value: marking, then the leased picture goes into the store.
-use crate::entries::take_lists;
 use crate::finished;
 use crate::not_whole;
 use crate::open_state;
@@ -8,6 +7,7 @@ use def::EvcRefP;
 use def::PmResult;
 use def::PutCall;
 use def::REFP_PLACES;
+use entries::take_lists;
 use keys::ROWS;
 use keys::SLOTS;
 ghost use mathlib.Core.Path.{_≡_};
@@ -24,6 +24,6 @@ pub fn evc_picman_put_pic(pm: EvcPm, refp: [EvcRefP; REFP_PLACES], call: PutCall
         return not_whole(pm);
     }
     let mut next = [0u64; SLOTS];
-    let called = picman::put::put(&mut keys, &mut rows, &mut next, state.rest, call);
+    let called = putting::put(&mut keys, &mut rows, &mut next, state.rest, call);
     finished(&keys, &rows, called)
 }

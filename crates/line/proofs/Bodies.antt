@@ -16,12 +16,13 @@ use Rattle.def.specs.Word.{word-of-bytes, bytes-of-word}
 use Rattle.line.specs.declared.Call.{Call}
 use Rattle.line.specs.declared.Call.the-variants.{Init, GetEmptyPic, PutPic, OutPic, RefpInit, PocDerivation}
 use Rattle.line.specs.declared.Reply.{Reply}
-use Rattle.line.specs.Hex.{wordBytes}
-use Rattle.line.specs.Frame.{AreBytes}
-use Rattle.line.specs.Calls.{byteAt, wordAt, isCall, badFlags, listsIn, callIn, callBytes, callKind}
+use Rattle.hex.specs.Hex.{wordBytes}
+use Rattle.hex.specs.Frame.{AreBytes, byteAt, wordAt}
+use Rattle.line.specs.Calls.{isCall, badFlags, listsIn, callIn, callBytes, callKind}
 use Rattle.line.specs.Answers.{reply, replyIn, replyBytes, answerKind}
-use Rattle.line.specs.Claims.{Lawful, CallFits, ReplyFits, CallsFaithful, AnswersFaithful}
-use Rattle.line.proofs.Faithful.{byte-fits, lines-faithful}
+use Rattle.hex.specs.Claims.{Lawful}
+use Rattle.line.specs.Claims.{CallFits, ReplyFits, CallsFaithful, AnswersFaithful}
+use Rattle.hex.proofs.Faithful.{byte-fits, lines-faithful}
 
 some-is : {A : Type 0} {a b : A} → some a ≡ some b → a ≡ b
 some-is e = cc

@@ -10,10 +10,10 @@ use lib.ListN.{length}
 use borrow.Author.Tests.{ne-eqb, eq-eqb, lt-ltb}
 use Rattle.seq.specs.Lists.{all}
 use Rattle.line.specs.declared.Line.the-variants.{Bad}
-use Rattle.line.specs.Hex.{isDigit, isHex, bytesOf, sum8}
-use Rattle.line.specs.Frame.{bodyOf, isChecked, fromBytes}
+use Rattle.hex.specs.Hex.{isDigit, isHex, bytesOf, sum8}
+use Rattle.hex.specs.Frame.{bodyOf, isChecked, fromBytes}
 use Rattle.line.specs.Calls.{callIn, callKind, lineFor, callFrom, readLine}
-use Rattle.line.specs.CallLaws.{not-second}
+use Rattle.hex.proofs.HexLaws.{not-second}
 
 -- Bytes that have no check byte are Bad, and of any others the body is read.
 unchecked : (bs : List ℕ) → isChecked bs ≡ false → callFrom bs ≡ Bad

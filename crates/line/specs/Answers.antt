@@ -10,9 +10,8 @@ use Rattle.def.specs.declared.Answer.{Answer}
 use Rattle.def.specs.declared.Answer.the-variants.{Done, Picture, NotYet, NoMore, Counts, Refused}
 use Rattle.def.specs.Refusals.{refusalNumber}
 use Rattle.line.specs.declared.Reply.{Reply}
-use Rattle.line.specs.Hex.{digitsOf, wordBytes}
-use Rattle.line.specs.Frame.{Kind, framed}
-use Rattle.line.specs.Calls.{byteAt, wordAt}
+use Rattle.hex.specs.Hex.{digitsOf, wordBytes}
+use Rattle.hex.specs.Frame.{Kind, framed, byteAt, wordAt}
 pub use Rattle.line.specs.Lines.{newline}
 pub use Rattle.def.specs.Word.{twosComplement}
 

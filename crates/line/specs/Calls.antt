@@ -5,23 +5,17 @@ use mathlib.Core.Bool.{Bool, cond, _&&_}
 use mathlib.Core.List.{List, [], _∷_, _++_}
 use mathlib.Core.Option.{Option, none, some}
 use lib.Dec.{ltb, eqb}
-use lib.ListN.{length, getD}
+use lib.ListN.{length}
 use Rattle.line.specs.declared.Call.{Call}
 use Rattle.line.specs.declared.Call.the-variants.{Init, GetEmptyPic, PutPic, OutPic, RefpInit, PocDerivation}
 use Rattle.line.specs.declared.Line.{Line}
 use Rattle.line.specs.declared.Line.the-variants.{Good, Bad}
-use Rattle.line.specs.Hex.{bytesOf, sum8, word, wordBytes}
-use Rattle.line.specs.Frame.{bodyOf, Kind, fromBytes, fromLine}
+use Rattle.hex.specs.Hex.{bytesOf, sum8, wordBytes}
+use Rattle.hex.specs.Frame.{byteAt, wordAt, bodyOf, Kind, fromBytes, fromLine}
 
 -- The longest call line has 26 digits.
 abbrev pub longestLine : ℕ
 longestLine = 26
-
-abbrev pub byteAt : List ℕ → ℕ → ℕ
-byteAt bs i = getD bs i 0
-
-abbrev pub wordAt : List ℕ → ℕ → ℕ → ℕ → ℕ → ℕ
-wordAt bs i j k l = word (byteAt bs i) (byteAt bs j) (byteAt bs k) (byteAt bs l)
 
 -- A call's kind goes by its call byte, which stands first, and by the length of its body.
 abbrev pub isCall : ℕ → ℕ → List ℕ → Bool

@@ -1,24 +1,21 @@
 // Lines of the program: calls that are read, answers that are written, both as lower-case hex pairs with a check byte.
-pub mod buffer;
-pub mod scan;
-pub mod tables;
-pub mod write;
-
 use def::Answer;
+use hex::high_digit;
+use hex::low_digit;
+use hex::sum8;
+use hex::word;
+use pairs::LONGEST_CALL;
+use pairs::decode;
 ghost use mathlib.Core.Path.{_≡_};
-ghost use mathlib.Core.Bool.{true};
-ghost use Prim.Native.Nat.{_+_, _*_, _/_, _%_, _<_, _≤_};
-ghost use lib.ListN.{length, take};
-ghost use Rattle.seq.specs.Lists.{all};
-ghost use Rattle.line.specs.Hex.{isDigit, digitValue, bytesOf, digitOf, sum8, word};
-ghost use Rattle.line.specs.Frame.{withCheck};
-ghost use Rattle.line.specs.Calls.{wordAt, isCall, putIn, listsIn, callIn, lineFor, callFrom, readLine};
+ghost use Prim.Native.Nat.{_+_, _*_, _/_, _%_, _<_};
+ghost use lib.ListN.{length};
+ghost use Rattle.hex.specs.Hex.{sum8, word};
+ghost use Rattle.hex.specs.Frame.{withCheck, wordAt};
+ghost use Rattle.line.specs.Calls.{isCall, putIn, listsIn, callIn, lineFor, callFrom, readLine};
 ghost use Rattle.line.specs.Answers.{noBuffer, reply, replyOf, replyBytes, answerLine};
 
-// The longest call line has 26 digits, and so 13 bytes.
+// The longest call line has 26 digits.
 pub const LONGEST_LINE: usize = 26;
-
-const LONGEST_CALL: usize = 13;
 
 // Where there is no buffer number the line shows this.
 const NO_BUFFER: u8 = 0xff;
@@ -73,68 +70,6 @@ pub struct Reply {
     pub status: u8,
     pub buf: u8,
     pub value: u32,
-}
-
-fn is_digit(c: u8) -> bool
-    ensures { λ r. ⌜ r ≡ isDigit c ⌝ }
-{
-    ((b'0' <= c) & (c <= b'9')) | ((b'a' <= c) & (c <= b'f'))
-}
-
-// The value of a digit. The low half of a letter counts from 1, and its bit 6 is set: no branch, since digits are hard to foretell.
-fn digit_value(c: u8) -> u8
-    requires { ⌜ isDigit c ≡ true ⌝ }
-    ensures { λ r. ⌜ r ≡ digitValue c ⌝ }
-{
-    c % 16 + 9 * (c / 64)
-}
-
-// The byte of a pair of digits.
-fn pair_value(high: u8, low: u8) -> u8
-    requires { ⌜ (isDigit high ≡ true) × (isDigit low ≡ true) ⌝ }
-    ensures { λ r. ⌜ r ≡ 16 * digitValue high + digitValue low ⌝ }
-{
-    16 * digit_value(high) + digit_value(low)
-}
-
-// Writes the bytes that pairs of digits stand for, up to the first pair that is not two digits; says whether all are.
-fn decode(digits: &[u8], bytes: &mut [u8; LONGEST_CALL]) -> bool
-    requires { ⌜ (length (now digits) ≤ 26) × (length (now digits) % 2 ≡ 0) × (length (now bytes) ≡ 13) ⌝ }
-    ensures hex { λ r. ⌜ r ≡ all isDigit (now (digits .entry)) ⌝ }
-    ensures bytes { λ r. ⌜ (r ≡ true → take (length (now (digits .entry)) / 2) (now (bytes .exit)) ≡ bytesOf (now (digits .entry))) ⌝ }
-{
-    let n = digits.len() / 2;
-    let mut i = 0;
-    while i < n {
-        let high = digits[2 * i];
-        let low = digits[2 * i + 1];
-        if !(is_digit(high) & is_digit(low)) {
-            return false;
-        }
-        bytes[i] = pair_value(high, low);
-        i += 1;
-    }
-    true
-}
-
-// The sum of bytes, wrapping at 256.
-fn sum8(bytes: &[u8]) -> u8
-    ensures { λ r. ⌜ r ≡ sum8 (now (bytes .entry)) ⌝ }
-{
-    let mut sum: u8 = 0;
-    let mut i = 0;
-    while i < bytes.len() {
-        sum = std::num::wrapping_add_u8(sum, bytes[i]);
-        i += 1;
-    }
-    sum
-}
-
-// Four bytes, the highest first.
-fn word(a: u8, b: u8, c: u8, d: u8) -> u32
-    ensures { λ r. ⌜ r ≡ word a b c d ⌝ }
-{
-    ((a as u32 * 256 + b as u32) * 256 + c as u32) * 256 + d as u32
 }
 
 // Four bytes from a place on.
@@ -309,30 +244,6 @@ pub fn answer_bytes(reply: Reply) -> [u8; 8]
     let sum = sum8(&bytes);
     bytes[7] = std::num::wrapping_sub_u8(0, sum);
     bytes
-}
-
-// The lower-case hex digit of a value.
-fn digit_of(n: u8) -> u8
-    requires { ⌜ n < 16 ⌝ }
-    ensures { λ r. ⌜ r ≡ digitOf n ⌝ }
-{
-    if n < 10 {
-        return 48 + n;
-    }
-    87 + n
-}
-
-// The two digits of a byte.
-fn high_digit(b: u8) -> u8
-    ensures { λ r. ⌜ r ≡ digitOf (b / 16) ⌝ }
-{
-    digit_of(b / 16)
-}
-
-fn low_digit(b: u8) -> u8
-    ensures { λ r. ⌜ r ≡ digitOf (b % 16) ⌝ }
-{
-    digit_of(b % 16)
 }
 
 // The line of an answer: its bytes in hex, and the newline.

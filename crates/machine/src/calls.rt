@@ -11,12 +11,12 @@ use def::EvcPoc;
 use def::PutCall;
 use def::RefpCall;
 use def::Refusal;
+use deriving::poc_derivation;
 use keys::Called;
 use keys::PLACES;
 use keys::SLOTS;
 use line::Call;
 use line::reply_of;
-use poc::poc_derivation;
 use whole::is_whole;
 ghost use mathlib.Core.Path.{_≡_};
 ghost use Rattle.picman.specs.Init.{init};
@@ -77,7 +77,7 @@ fn get_call(keys: &mut [u64], rows: &mut [u32], s: Scalars) -> Made
 {
     let rest = s.rest;
     let poc = s.poc;
-    made(GET_EMPTY_PIC, picman::get::get(keys, rows, rest), poc)
+    made(GET_EMPTY_PIC, leasing::get(keys, rows, rest), poc)
 }
 
 fn put_call(keys: &mut [u64], rows: &mut [u32], s: Scalars, call: PutCall) -> Made
@@ -89,7 +89,7 @@ fn put_call(keys: &mut [u64], rows: &mut [u32], s: Scalars, call: PutCall) -> Ma
     let mut next = [0u64; SLOTS];
     made(
         PUT_PIC,
-        picman::put::put(keys, rows, &mut next, rest, call),
+        putting::put(keys, rows, &mut next, rest, call),
         poc,
     )
 }
@@ -100,7 +100,7 @@ fn out_call(keys: &mut [u64], rows: &[u32], s: Scalars) -> Made
 {
     let rest = s.rest;
     let poc = s.poc;
-    made(OUT_PIC, picman::out::out(keys, rest), poc)
+    made(OUT_PIC, handing::out(keys, rest), poc)
 }
 
 fn refp_call(keys: &[u64], rows: &mut [u32], s: Scalars, call: RefpCall) -> Made

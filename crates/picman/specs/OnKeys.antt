@@ -4,9 +4,9 @@ use Prim.Native.Nat.{ℕ, _+_, _-_, _*_, _≤_, _<_}
 use mathlib.Core.Path.{_≡_}
 use mathlib.Core.Bool.{Bool, true, cond, _&&_, _||_}
 use mathlib.Core.List.{List, List·Memᴰ}
-use lib.Dec.{eqb, leb}
+use lib.Dec.{eqb, leb, ltb}
 use lib.ListN.{length, getD}
-use Rattle.seq.specs.Lists.{highest}
+use Rattle.seq.specs.Lists.{any, highest, lowest}
 use Rattle.def.specs.declared.{EvcPm.EvcPm, PutCall.PutCall, PmResult.PmResult, Answer.Answer, Refusal.Refusal}
 use Rattle.keys.specs.declared.{Rest.Rest, Called.Called}
 use Rattle.def.specs.State.{slots, listPlaces, highestPoc}
@@ -43,6 +43,12 @@ keyLeased free r = record { answer = Answer.Picture free 0; rest = withLease r (
 
 abbrev pub keyDue : ℕ → ℕ → Bool
 keyDue next k = keyWanted k && leb (keyNumber k) next
+
+-- Where out looks: the lowest slot that is due. Where none is: past the slots, one place further where no picture is wanted.
+abbrev pub duePlace : ℕ → List ℕ → ℕ
+duePlace next keys =
+    let i = lowest (keyDue next) keys in
+    cond (ltb i slots) i (cond (any keyWanted keys) slots (slots + 1))
 
 -- As in a whole state.
 abbrev pub NumbersFit : List ℕ → Type 0

@@ -7,10 +7,7 @@ use def::Refusal;
 use keys::Called;
 use keys::Rest;
 
-pub mod get;
 pub mod init;
-pub mod out;
-pub mod put;
 
 // A call turned down leaves the rest as it was.
 pub fn refuse(rest: Rest, why: Refusal) -> Called

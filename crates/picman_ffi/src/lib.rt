@@ -4,7 +4,7 @@
 // that this one left.
 pub mod arrays;
 
-use entry::copy::check_copy_refp;
+use copying::check_copy_refp;
 use image::is_flag;
 use image::is_image;
 use image::read::read_pm;

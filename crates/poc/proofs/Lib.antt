@@ -1,7 +1,4 @@
-mod Words
-mod Float
-mod Formula
-mod OffsetTable
+pub mod Words
 pub mod Settled
 pub mod Seek
 pub mod Offset

@@ -9,11 +9,10 @@ use lib.Dec.{eqb}
 use lib.ListN.{take}
 use Rattle.line.specs.Calls.{readLine}
 use Rattle.line.specs.Answers.{answerLine}
-use Rattle.line.specs.Lines.{newline}
+use Rattle.line.specs.Lines.{newline, lastLine}
 use Rattle.line.specs.declared.Line.{Line}
 use Rattle.machine.specs.declared.Machine.{Machine}
 use Rattle.machine.specs.Step.{stepLine}
-use Rattle.line.specs.Lines.{lastLine}
 use Rattle.run.specs.Run.{Runner, Fed, answersTo, endLine, extendLine, feedByte, feed, finish}
 use Rattle.run.specs.Partial.{kept}
 use Rattle.run.proofs.PartialLaws.{kept-reads}

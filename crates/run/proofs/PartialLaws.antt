@@ -10,7 +10,7 @@ use lib.ListN.{length, take}
 use lib.Seq.{take-all, length-take-le, take-append-add, paste, take-paste}
 use borrow.Author.Tests.{leb-true, leb-false}
 use Rattle.line.specs.Calls.{readLine}
-use Rattle.line.specs.CallLaws.{too-long}
+use Rattle.line.proofs.CallLaws.{too-long}
 use Rattle.run.specs.Partial.{kept}
 
 -- The characters that are kept say what the whole line says.

@@ -10,7 +10,7 @@ use lib.Seq.{take-all, drop-drop, drop-paste, length-take-le, paste, take-paste,
 use Rattle.seq.specs.Lists.{lowest}
 use Rattle.line.specs.declared.Line.{Line}
 use Rattle.line.specs.declared.Reply.{Reply}
-use Rattle.line.specs.Hex.{digitsOf}
+use Rattle.hex.specs.Hex.{digitsOf}
 use Rattle.line.specs.Calls.{readLine}
 use Rattle.line.specs.Lines.{isNewline, lineEnd, lineAt}
 use Rattle.line.specs.Answers.{answerDigits, answerLine}

@@ -8,7 +8,7 @@ use lib.Dec.{ltb}
 use lib.ListN.{length, take, drop, replicate}
 use Rattle.keys.specs.Keys.{rowsLength}
 use Rattle.def.specs.State.{slots}
-use Rattle.line.specs.Hex.{digitTables}
+use Rattle.hex.specs.Hex.{digitTables}
 use Rattle.line.specs.Calls.{readLine}
 use Rattle.line.specs.Lines.{lineEnd, lineAt}
 use Rattle.machine.specs.Running.{machineIn, newScalars, Runs}

@@ -3,15 +3,13 @@
 // input into pieces comes to it.
 pub mod partial;
 
+use buffer::line_end;
 use def::Refusal;
 use def::refusal_number;
+use hex::tables::TABLE_SIZE;
 use line::Line;
 use line::LineAt;
 use line::Reply;
-use line::buffer::line_end;
-use line::scan::read_line_at;
-use line::tables::TABLE_SIZE;
-use line::write::write_reply;
 use machine::Made;
 use machine::Scalars;
 use machine::calls::make_call;
@@ -19,12 +17,13 @@ use machine::fresh::new_scalars;
 use partial::Partial;
 use partial::extended;
 use partial::no_line;
-use partial::read_held;
 use partial::read_with;
+use scan::read_line_at;
+use writing::write_reply;
 ghost use mathlib.Core.Path.{_≡_};
 ghost use Prim.Native.Nat.{_≤_};
 ghost use lib.ListN.{length};
-ghost use Rattle.line.specs.Hex.{digitTables};
+ghost use Rattle.hex.specs.Hex.{digitTables};
 ghost use Rattle.line.specs.Answers.{badLineReply};
 ghost use Rattle.machine.specs.Step.{stepLine};
 ghost use Rattle.machine.specs.Running.{machineIn, Runs, Makes};
@@ -164,7 +163,7 @@ pub fn new_session() -> Session
     Session { scalars, partial }
 }
 
-// At the end of the input: answers a last line that lacks its newline. Gives how many bytes were written.
+// At the end of the input: answers a last line that lacks its newline, as if it had one. Gives how many bytes were written.
 pub fn run_end(
     keys: &mut [u64],
     rows: &mut [u32],
@@ -179,8 +178,7 @@ pub fn run_end(
     if partial.len == 0 {
         return 0;
     }
-    let scalars = session.scalars;
-    let made = answer_line(keys, rows, scalars, read_held(partial));
-    let reply = made.reply;
-    write_reply(tables, out, 0, reply)
+    let newline = [b'\n'];
+    let ran = run_piece(keys, rows, session, tables, &newline, out);
+    ran.len
 }

@@ -9,7 +9,7 @@ use lib.ListN.{length}
 use Rattle.line.specs.declared.{Line.Line, Reply.Reply}
 use Rattle.line.specs.Answers.{replyBytes}
 use Rattle.line.specs.Calls.{callFrom}
-use Rattle.line.specs.Frame.{withCheck}
+use Rattle.hex.specs.Frame.{withCheck}
 use Rattle.running.specs.Slices.{Slices, sized, replyTo, Leaves}
 
 -- The bytes of an answer, check byte last.

@@ -2,8 +2,8 @@
 use crate::BAD_LINE;
 use crate::is_sized;
 use crate::reply_on;
+use buffer::paste;
 use line::Reply;
-use line::buffer::paste;
 ghost use mathlib.Core.Path.{_≡_};
 ghost use lib.ListN.{length};
 ghost use Rattle.running.specs.Slices.{slices};

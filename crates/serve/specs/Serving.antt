@@ -5,7 +5,7 @@ use mathlib.Core.Path.{_≡_}
 use mathlib.Core.Bool.{Bool, true, false}
 use mathlib.Core.List.{List}
 use lib.ListN.{length, take}
-use Rattle.line.specs.Hex.{digitTables}
+use Rattle.hex.specs.Hex.{digitTables}
 use Rattle.run.specs.declared.Session.{Session}
 use Rattle.run.specs.Session.{answerSize, SoundSession, RanOver}
 use Rattle.serve.specs.declared.{Went.Went, Handed.Handed}

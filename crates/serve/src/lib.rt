@@ -1,8 +1,8 @@
 // Calls from one descriptor, answers to another: the program's loop. The answers to the lines that a read completed are written before the
 // next read, so a pipe whose other end waits for each answer is served. A read that a signal interrupts is repeated. A read or a write that
 // fails is said on standard error, with the system's words, and ends the loop.
-use line::tables::TABLE_SIZE;
-use line::tables::digit_tables;
+use hex::tables::TABLE_SIZE;
+use hex::tables::digit_tables;
 use run::Session;
 use run::new_session;
 use run::run_end;

@@ -2,6 +2,7 @@
 use def::PmResult;
 use def::PutCall;
 use def::RefpCall;
+use deriving::poc_derivation;
 use entry::get::evc_picman_get_empty_pic;
 use entry::init::evc_picman_init;
 use entry::lists::evc_picman_refp_init;
@@ -14,7 +15,6 @@ use machine::Stepped;
 use machine::fields::derived_reply;
 use machine::fields::put_call_of;
 use machine::fields::refp_call_of;
-use poc::poc_derivation;
 ghost use mathlib.Core.Path.{_≡_};
 ghost use Rattle.poc.specs.PictureNumber.{derive};
 ghost use Rattle.refp.specs.Lists.{lists};

@@ -4,8 +4,8 @@ use Prim.Native.Nat.{ℕ}
 use native.Mathlib.Omega.{arith}
 use mathlib.Core.Path.{_≡_, ap, _∙_}
 use mathlib.Core.List.{[], _∷_, _++_}
-use Rattle.line.specs.Hex.{sum8, checkByte}
-use Rattle.line.proofs.HexLaws.{sum8-fits, sum8-zero}
+use Rattle.hex.specs.Hex.{sum8, checkByte}
+use Rattle.hex.proofs.HexLaws.{sum8-fits, sum8-zero}
 use Rattle.line.specs.Answers.{replyBytes}
 use borrow.Author.Needs.{needs}
 use Rattle.line.proofs.answer_bytes.Statement.{statement}

@@ -7,8 +7,8 @@ use mathlib.Core.List.{List, [], _∷_, _++_, append-nil}
 use borrow.Author.Needs.{needs}
 use lib.ListN.{length, take, drop, set, length-set, take-append-drop, drop-of-length-le}
 use lib.Seq.{drop-set-lt}
-use Rattle.line.specs.Hex.{digitsOf}
-use Rattle.line.proofs.Pairs.{pair-digits}
+use Rattle.hex.specs.Hex.{digitsOf}
+use Rattle.hex.proofs.Pairs.{pair-digits}
 use Rattle.line.specs.Answers.{newline, answerDigits, answerLine}
 use Rattle.line.proofs.answer_line.Statement.{statement}
 use Rattle.line.proofs.answer_line.Tie as tie

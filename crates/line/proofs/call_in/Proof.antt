@@ -10,7 +10,8 @@ use borrow.Author.Tests.{eqb-true}
 use lib.Dec.{eqb}
 use Rattle.seq.specs.All.{and-right}
 use Rattle.line.specs.declared.Line.the-variants.{Good}
-use Rattle.line.specs.Calls.{byteAt, isCall, callIn}
+use Rattle.hex.specs.Frame.{byteAt}
+use Rattle.line.specs.Calls.{isCall, callIn}
 use native.Mathlib.Omega.{arith}
 use Rattle.line.proofs.call_in.Statement.{statement}
 use Rattle.line.proofs.call_in.Tie as tie

@@ -3,8 +3,8 @@ use mathlib.Core.Path.{sym, ap, _∙_}
 use mathlib.Core.Bool.{Bool, _&&_, and-true}
 use lib.Dec.{eqb}
 use borrow.Author.Tests.{ne-eqb, eq-eqb}
-use Rattle.line.specs.CallLaws.{not-second}
-use Rattle.line.specs.Calls.{byteAt}
+use Rattle.hex.proofs.HexLaws.{not-second}
+use Rattle.hex.specs.Frame.{byteAt}
 use borrow.Author.Needs.{needs}
 use Rattle.line.proofs.is_call.Statement.{statement}
 use Rattle.line.proofs.is_call.Tie as tie

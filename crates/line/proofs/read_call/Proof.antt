@@ -3,8 +3,8 @@
 use Prim.Native.Nat.{ℕ, zero, suc, _<_}
 use mathlib.Core.Path.{_≡_, refl, sym, _∙_}
 use native.Mathlib.Omega.{arith}
-use Rattle.line.specs.Frame.{bodyOf}
-use Rattle.line.specs.CallLaws.{body-length}
+use Rattle.hex.specs.Frame.{bodyOf}
+use Rattle.hex.proofs.HexLaws.{body-length}
 use Rattle.line.proofs.Reading.{no-bytes, bad-sum, good-sum}
 use borrow.Author.Needs.{needs}
 use Rattle.line.proofs.read_call.Statement.{statement}

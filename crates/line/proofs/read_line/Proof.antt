@@ -7,9 +7,10 @@ use mathlib.Core.Bool.{Bool, _&&_}
 use lib.Dec.{eqb}
 use lib.ListN.{length, take, length-take}
 use borrow.Author.Tests.{not-true, not-false}
-use Rattle.line.specs.Hex.{bytesOf}
+use Rattle.hex.specs.Hex.{bytesOf}
 use Rattle.line.specs.Calls.{callFrom}
-use Rattle.line.specs.CallLaws.{bytes-length, too-long}
+use Rattle.hex.proofs.HexLaws.{bytes-length}
+use Rattle.line.proofs.CallLaws.{too-long}
 use Rattle.line.proofs.Reading.{bad-digits, bad-pairs, hex-line}
 use borrow.Author.Needs.{needs}
 use Rattle.line.proofs.read_line.Statement.{statement}

@@ -1,8 +1,4 @@
 -- `run::run_end` meets its contract. Assumes nothing.
-use mathlib.Core.Path.{ap, _∙_}
-use Rattle.line.specs.declared.Line.{Line}
-use Rattle.machine.specs.Step.{stepLine}
-use Rattle.machine.specs.Running.{machineIn}
 use Rattle.run.proofs.Ending.{end-none, end-line}
 use borrow.Author.Needs.{needs}
 use Rattle.run.proofs.run_end.Statement.{statement}
@@ -10,18 +6,14 @@ use Rattle.run.proofs.run_end.Tie as tie
 
 returns : tie.Need-returns
 returns c =
-    let s = c .before .before .before .before .before .before in
-    let a = s .args in
+    let a = c .before .before .before .before .before .before .args in
     end-none (a .keys .now) (a .rows .now) (a .session) (a .out .now) (c .if1 .taken)
 
-read-held-requires : tie.Need-read-held-requires
-read-held-requires c κs = search needs
+slice-aggregate-run-piece : tie.Need-slice-aggregate-run-piece
+slice-aggregate-run-piece c = search needs
 
-answer-line-requires : tie.Need-answer-line-requires
-answer-line-requires c κs = search needs
-
-write-reply-requires : tie.Need-write-reply-requires
-write-reply-requires c κs = search needs
+run-piece-requires : tie.Need-run-piece-requires
+run-piece-requires c κs = search needs
 
 same-length : tie.Need-same-length
 same-length c = search needs
@@ -34,25 +26,19 @@ same-length-3 c = search needs
 
 returns-2 : tie.Need-returns-2
 returns-2 c =
-    let wrote = c .before .before in
-    let answered = wrote .before .before .before .before .before .before .before in
-    let at-else = answered .before .before .before .before .before in
+    let ran = c .before .before .before .before .before .before in
+    let at-else = ran .before .before .before .before .before in
     let s = at-else .before .before .before .before .before .before in
     let a = s .args in
-    let r = answered .before .read-held .ensures in
-    end-line (a .keys .now) (a .rows .now) (a .session) (a .out .now) (at-else .if1 .left) (s .pre .sound .room) (s .pre .answer-fits)
-    (answered .answer-line .result .reply)
-    (answered .answer-line .ensures .replies ∙ ap (λ (l : Line). stepLine (machineIn (a .keys .now) (a .rows .now) (a .session .scalars)) l .reply) r)
-    _ (wrote .write-reply .ensures .1) _ (wrote .write-reply .ensures .0)
+    end-line (a .keys .now) (a .rows .now) (a .session) (a .out .now) (at-else .if1 .left) (s .pre .sound .room) (ran .run-piece .ensures)
 
 pub run-end-spec : {M : Type 1} → statement M
 run-end-spec =
     tie.close
     (tie.spec
     returns
-    read-held-requires
-    answer-line-requires
-    write-reply-requires
+    slice-aggregate-run-piece
+    run-piece-requires
     same-length
     same-length-2
     same-length-3

@@ -10,7 +10,7 @@ use lib.ListN.{length, take, drop, length-drop}
 use lib.Seq.{take-all}
 use borrow.Author.Needs.{needs}
 use borrow.Author.Tests.{ltb-true, ltb-false}
-use Rattle.line.specs.Hex.{digitTables}
+use Rattle.hex.specs.Hex.{digitTables}
 use Rattle.line.specs.Lines.{lineEnd}
 use Rattle.line.specs.declared.{Line.Line, Reply.Reply}
 use Rattle.machine.specs.declared.{Machine.Machine, Stepped.Stepped, Scalars.Scalars, Made.Made}

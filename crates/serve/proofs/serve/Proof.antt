@@ -3,7 +3,7 @@
 use mathlib.Core.Path.{_≡_, refl, _∙_}
 use lib.ListN.{length}
 use borrow.Author.Needs.{needs}
-use Rattle.line.specs.Hex.{digitTables}
+use Rattle.hex.specs.Hex.{digitTables}
 use Rattle.run.specs.Session.{SoundSession}
 use Rattle.serve.proofs.Serving.{new-runs, turned-sound}
 use Rattle.serve.proofs.serve.Statement.{statement}

@@ -1,0 +1,3 @@
+mod Float
+pub mod Formula
+mod OffsetTable

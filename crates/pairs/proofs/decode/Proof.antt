@@ -1,0 +1,122 @@
+-- `pairs::decode` meets its contract. The loop's invariant: the bytes written, with those that the digits left stand for, are the bytes of the whole line,
+-- and its characters are digits just where those left are. Assumes nothing.
+use Prim.Native.Nat.{ℕ, _+_, _-_, _*_, _/_, _≤_, _<_}
+use native.Mathlib.Omega.{arith}
+use mathlib.Core.Path.{_≡_, refl, sym, ap, _∙_}
+use mathlib.Core.Bool.{true, _&&_}
+use mathlib.Core.List.{List, [], _++_, append-nil}
+use borrow.Author.Needs.{needs}
+use borrow.Author.Tests.{not-true, not-false}
+use lib.ListN.{length, getD, take, drop, length-set, drop-of-length-le}
+use Rattle.seq.specs.Lists.{all}
+use Rattle.hex.specs.Hex.{isDigit, bytesOf}
+use Rattle.hex.proofs.HexLaws.{both}
+use Rattle.hex.proofs.Pairs.{not-hex, pair-hex, pair-bytes}
+use Rattle.pairs.proofs.decode.Statement.{statement}
+use Rattle.pairs.proofs.decode.Tie as tie
+
+abbrev Inv-loop : tie.InvT-loop
+Inv-loop digits bytes₀ n i₀ bytes i =
+    (i ≤ n) × (length bytes ≡ 13) × (all isDigit (drop (2 * i) digits) ≡ all isDigit digits) × (take i bytes ++ bytesOf (drop (2 * i) digits) ≡ bytesOf digits)
+
+abbrev μ-loop : tie.MeasureT-loop
+μ-loop digits bytes₀ n i₀ bytes i = n - i
+
+loop-holds : tie.Need-loop-holds Inv-loop μ-loop
+loop-holds c = (omega arith, omega arith, refl, refl)
+
+mul-high : tie.Need-mul-high Inv-loop μ-loop
+mul-high c = omega arith
+
+shared-slice-read-high : tie.Need-shared-slice-read-high Inv-loop μ-loop
+shared-slice-read-high c = omega arith
+
+mul-low : tie.Need-mul-low Inv-loop μ-loop
+mul-low c = omega arith
+
+add-low : tie.Need-add-low Inv-loop μ-loop
+add-low c = omega arith
+
+shared-slice-read-low : tie.Need-shared-slice-read-low Inv-loop μ-loop
+shared-slice-read-low c = omega arith
+
+is-digit-requires : tie.Need-is-digit-requires Inv-loop μ-loop
+is-digit-requires c κs = search needs
+
+is-digit-requires-2 : tie.Need-is-digit-requires-2 Inv-loop μ-loop
+is-digit-requires-2 c κs = search needs
+
+-- What the two tests of a pair say.
+tested : (c : tie.After-is-digit2 Inv-loop μ-loop) →
+    let l = c .before .before .before .before .before .loop in
+    let digits = c .before .before .before .before .before .before .before .args .digits .now in
+    (c .before .is-digit .result && c .is-digit2 .result) ≡ (isDigit (getD digits (2 * l .i) 0) && isDigit (getD digits (2 * l .i + 1) 0))
+tested c = rw (c .before .is-digit .ensures, c .is-digit2 .ensures)
+
+returns : tie.Need-returns Inv-loop μ-loop
+returns c =
+    let l = c .before .before .before .before .before .before .loop in
+    let digits = c .before .before .before .before .before .before .before .before .args .digits .now in
+    let e = sym (tested (c .before)) ∙ not-true (c .before .before .is-digit .result && c .before .is-digit2 .result) (c .if1 .taken) in
+    let h : 2 * l .i + 1 < length digits = omega arith in
+    (sym (not-hex digits (l .i) h e) ∙ l .inv .2, λ f. absurd (let n : _≡_ {A = ℕ} 0 1 = cc f in omega arith))
+
+two-digits : (c : tie.Else1 Inv-loop μ-loop) →
+    let l = c .before .before .before .before .before .before .loop in
+    let digits = c .before .before .before .before .before .before .before .before .args .digits .now in
+    (isDigit (getD digits (2 * l .i) 0) ≡ true) × (isDigit (getD digits (2 * l .i + 1) 0) ≡ true)
+two-digits c = both _ _ (sym (tested (c .before)) ∙ not-false (c .before .before .is-digit .result && c .before .is-digit2 .result) (c .if1 .left))
+
+pair-value-requires : tie.Need-pair-value-requires Inv-loop μ-loop
+pair-value-requires c κs = two-digits c
+
+element-write-bytes : tie.Need-element-write-bytes Inv-loop μ-loop
+element-write-bytes c = omega arith
+
+add-i : tie.Need-add-i Inv-loop μ-loop
+add-i c = omega arith
+
+loop-less : tie.Need-loop-less Inv-loop μ-loop
+loop-less c = omega arith
+
+loop-again : tie.Need-loop-again Inv-loop μ-loop
+loop-again c =
+    let l = c .before .before .before .before .before .before .before .loop in
+    let digits = c .before .before .before .before .before .before .before .before .before .args .digits .now in
+    let h : 2 * l .i + 1 < length digits = omega arith in
+    let k : l .i < length (l .bytes) = omega arith in
+    let two = two-digits (c .before) in
+    let hex : all isDigit (drop (2 * (l .i + 1)) digits) ≡ all isDigit (drop (2 * l .i) digits) =
+    sym (pair-hex digits (l .i) h ∙ simp (two .0, two .1)) in
+    (omega arith, length-set (l .bytes) (l .i) _ ∙ l .inv .1, hex ∙ l .inv .2, pair-bytes digits (l .bytes) (l .i) _ h k (c .pair-value .ensures) ∙ l .inv .3)
+
+returns-2 : tie.Need-returns-2 Inv-loop μ-loop
+unfolding all bytesOf
+returns-2 c =
+    let l = c .before .loop in
+    let digits = c .before .before .before .args .digits .now in
+    let i : l .i ≡ length digits / 2 = omega arith in
+    let none : drop (2 * l .i) digits ≡ [] = drop-of-length-le digits {i = 2 * l .i} (omega arith) in
+    (sym (ap (all isDigit) none) ∙ l .inv .2, λ f. rw (← i) (sym (append-nil (take (l .i) (l .bytes))) ∙ sym (ap (λ (t : List ℕ). take (l .i) (l .bytes) ++ bytesOf t) none) ∙ l .inv .3))
+
+pub decode-spec : {M : Type 1} → statement M
+decode-spec =
+    tie.close
+    (tie.spec
+    Inv-loop
+    μ-loop
+    loop-holds
+    mul-high
+    shared-slice-read-high
+    mul-low
+    add-low
+    shared-slice-read-low
+    is-digit-requires
+    is-digit-requires-2
+    returns
+    pair-value-requires
+    element-write-bytes
+    add-i
+    loop-less
+    loop-again
+    returns-2)

@@ -1,0 +1,53 @@
+-- `putting::put_nothing` meets its contract: marked or not. Assumes nothing.
+use mathlib.Core.Path.{refl, sym, ap, _∙_}
+use borrow.Author.Needs.{needs}
+use borrow.Author.Tests.{not-true, not-false}
+use lib.ListN.{length}
+use Rattle.keys.specs.Keys.{stands}
+use Rattle.picman.proofs.PutOnKeys.{not-marked}
+use Rattle.putting.proofs.put_nothing.Statement.{statement}
+use Rattle.putting.proofs.put_nothing.Tie as tie
+
+marks-anew-requires : tie.Need-marks-anew-requires
+marks-anew-requires c κs = search needs
+
+returns : tie.Need-returns
+returns c = λ rows long.
+    let s = c .before .before .before .before in
+    record {
+      answers = refl;
+      stands-for = sym (not-marked (s .args .call) (stands (s .args .keys .now) rows (s .args .rest)) (sym (c .before .marks-anew .ensures) ∙ not-true _ (c .if1 .taken)));
+      lists-stay = refl;
+      still-sized = record { slots-long = s .pre .0; rows-long = long };
+    }
+
+remark-requires : tie.Need-remark-requires
+remark-requires c κs = let s = c .before .before .before .before .before .before in (s .pre .0, s .pre .1, sym (c .before .before .before .marks-anew .ensures) ∙ not-false _ (c .before .before .if1 .left))
+
+copy-keys-requires : tie.Need-copy-keys-requires
+copy-keys-requires c κs = (c .before .before .before .before .remark .ensures .remarks-long, c .before .before .before .before .before .before .before .before .before .before .before .pre .0)
+
+same-length : tie.Need-same-length
+same-length c = ap length (c .before .before .copy-keys .ensures) ∙ c .before .before .before .before .before .before .before .remark .ensures .remarks-long ∙ sym (c .before .before .before .before .before .before .before .before .before .before .before .before .before .before .pre .0)
+
+same-length-2 : tie.Need-same-length-2
+same-length-2 c = c .before .before .before .before .before .before .before .remark .ensures .remarks-long ∙ sym (c .before .before .before .before .before .before .before .before .before .before .before .before .before .before .pre .1)
+
+returns-2 : tie.Need-returns-2
+returns-2 c = λ rows long.
+    let s = c .before .before .before .before .before .before .before .before .before .before .before .before .before .before in
+    let m = c .before .before .before .before .before .before .before .remark .ensures in
+    rw (c .before .before .copy-keys .ensures)
+    (record { answers = refl; stands-for = m .remarks rows (s .args .rest); lists-stay = refl; still-sized = record { slots-long = m .remarks-long; rows-long = long } })
+
+pub put-nothing-spec : {M : Type 1} → statement M
+put-nothing-spec =
+    tie.close
+    (tie.spec
+    marks-anew-requires
+    returns
+    remark-requires
+    copy-keys-requires
+    same-length
+    same-length-2
+    returns-2)

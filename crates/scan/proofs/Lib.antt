@@ -1,0 +1,2 @@
+pub mod CallsAt
+pub mod Scanning
