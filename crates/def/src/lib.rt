@@ -144,7 +144,7 @@ pub struct Slot {
 }
 
 // A new picture is all zero.
-pub fn new_pic() -> EvcPic
+fn new_pic() -> EvcPic
     ensures { λ r. ⌜ r ≡ newPic ⌝ }
 {
     EvcPic {

@@ -15,7 +15,7 @@ use sweeping::sweep;
 const MOST_MARKED: u8 = 4;
 
 // The first `n` marked slots are unmarked, and noted.
-pub fn unmark_first(keys: &mut [u64], n: u8, notes: &mut [bool; SLOTS])
+fn unmark_first(keys: &mut [u64], n: u8, notes: &mut [bool; SLOTS])
     requires { ⌜ (length (now keys) ≡ slots) × (length (now notes) ≡ slots) ⌝ }
     ensures { λ _. ⌜ Unmarks n (now (keys .entry)) (now (keys .exit)) (now (notes .exit)) ⌝ }
 {
@@ -36,7 +36,7 @@ pub fn unmark_first(keys: &mut [u64], n: u8, notes: &mut [bool; SLOTS])
 }
 
 // At each noted place what stands there now goes to the last slot; the notes stay where they are.
-pub fn last_walk(keys: &mut [u64], notes: &[bool; SLOTS])
+fn last_walk(keys: &mut [u64], notes: &[bool; SLOTS])
     requires { ⌜ (length (now keys) ≡ slots) × (length (now notes) ≡ slots) ⌝ }
     ensures { λ _. ⌜ Walked (now (notes .entry)) (now (keys .entry)) (now (keys .exit)) ⌝ }
 {

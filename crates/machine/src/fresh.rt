@@ -18,7 +18,7 @@ ghost use Rattle.poc.specs.PictureNumber.{recordOf};
 ghost use Rattle.machine.specs.Running.{newScalars};
 ghost use Rattle.machine.specs.Step.{newLists, newMachine};
 
-pub fn new_pm() -> EvcPm
+fn new_pm() -> EvcPm
     ensures { λ r. ⌜ r ≡ newPm ⌝ }
 {
     let slot = empty_slot();
@@ -37,7 +37,7 @@ pub fn new_pm() -> EvcPm
     }
 }
 
-pub fn new_refp() -> [EvcRefP; REFP_PLACES]
+fn new_refp() -> [EvcRefP; REFP_PLACES]
     ensures { λ r. ⌜ r ≡ newLists ⌝ }
 {
     let entry = EvcRefP {
@@ -49,7 +49,7 @@ pub fn new_refp() -> [EvcRefP; REFP_PLACES]
     [entry; REFP_PLACES]
 }
 
-pub fn new_poc() -> EvcPoc
+fn new_poc() -> EvcPoc
     ensures { λ r. ⌜ r ≡ recordOf (pos 0) 0 0 ⌝ }
 {
     EvcPoc {

@@ -22,7 +22,7 @@ fn misses_gap(poc: u64, gap: u32) -> bool
 }
 
 // The test that picks, for the key at place `i`. Few keys are marked, so the division comes last.
-pub fn is_outdated(key: u64, i: usize, gap: u32) -> bool
+fn is_outdated(key: u64, i: usize, gap: u32) -> bool
     ensures { λ r. ⌜ r ≡ keyOutdated gap i key ⌝ }
 {
     if !is_marked(key) {
