@@ -15,15 +15,15 @@ use Rattle.io.specs.Counts.{clamped}
 use Rattle.run.specs.declared.Session.{Session}
 use Rattle.run.specs.Partial.{kept}
 use Rattle.run.specs.Run.{Runner, Fed, after, program, feed, finish, start, joined}
-use Rattle.run.specs.Session.{runnerIn, RanOver, NewSession}
-use Rattle.run.proofs.Kept.{Alike, FedAlike, feed-alike, finish-alike}
+use Rattle.run.specs.Session.{runnerIn}
+use Rattle.run.proofs.Kept.{Alike, feed-alike, finish-alike}
 use Rattle.run.proofs.Pieces.{feed-append, feed-answers}
 use Rattle.run.proofs.Claims.{front, new-alike}
 use Rattle.serve.specs.declared.{Went.Went, Handed.Handed}
 use Rattle.serve.specs.declared.Went.the-variants.{On, InputEnded, ReadFailed, WriteFailed, LastWriteFailed}
 use Rattle.serve.specs.Serving.{broughtBy, Idle, Ranging, Turned}
 use Rattle.serve.specs.Loop.{Turns, one-turn, next-turn}
-use Rattle.serve.specs.Claims.{RanAll, TurnsRun, ServeWrites, BeginsWith, ServeBegins}
+use Rattle.serve.specs.Claims.{TurnsRun, ServeWrites, ServeBegins}
 
 -- A run that agrees with `f` in its machine and in what is kept of its line, and what was written up to there.
 record Agrees (r : Runner) (given : List ℕ) (f : Fed) : Type 0 where

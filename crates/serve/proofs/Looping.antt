@@ -1,7 +1,7 @@
 -- The loop: a chain of turns, and what its end comes to.
 -- Assumes nothing.
 use Prim.Native.Nat.{ℕ, _+_}
-use mathlib.Core.Path.{_≡_, refl, sym, ap, _∙_, subst}
+use mathlib.Core.Path.{_≡_, refl, ap, _∙_}
 use mathlib.Core.Bool.{true, false}
 use mathlib.Core.Bool as Bool
 use mathlib.Core.List.{List, [], _∷_}

@@ -6,7 +6,8 @@ use mathlib.Core.Bool.{true, false}
 use mathlib.Core.Bool as Bool
 use mathlib.Core.List.{List}
 use native.Mathlib.Omega.{arith}
-use borrow.Author.Tests.{lt-ltb}
+use borrow.Author.Tests.{lt-ltb, leb-true}
+use lib.Dec.{leb}
 use lib.IntN.{ℤ, pos, negsuc}
 use lib.Signed.{ltZ}
 use lib.ListN.{length, take, length-replicate}
@@ -22,10 +23,10 @@ use Rattle.machine.specs.Running.{Runs}
 use Rattle.machine.proofs.Running.{new-machine}
 use Rattle.machine.proofs.EveryCall.{new-sound}
 use Rattle.run.specs.declared.Session.{Session}
-use Rattle.run.specs.Session.{NewSession, newKeys, newRows, SoundSession, RanOver, EndedOver}
+use Rattle.run.specs.Session.{NewSession, newKeys, newRows, answerSize, SoundSession, RanOver, EndedOver}
 use Rattle.serve.specs.declared.{Went.Went, Heard.Heard, Handed.Handed}
 use Rattle.serve.specs.declared.Went.the-variants.{On, InputEnded, ReadFailed, WriteFailed, LastWriteFailed}
-use Rattle.serve.specs.Serving.{Patient, TurnRoom, Idle, Ranging, Turned, Given, taken, failed, Finished}
+use Rattle.serve.specs.Serving.{Patient, TurnRoom, Idle, Turned, Given, taken, failed, Finished}
 
 new-runs : (s : Session) → NewSession s → SoundSession newKeys newRows s
 new-runs s new = record {
@@ -36,10 +37,16 @@ new-runs s new = record {
   room = new .new-room;
 }
 
--- The loop begins with a piece of 16,384 bytes, and room for an answer of 17 to each.
-pub new-room : {s : Session} {tables : List ℕ} (piece out : List ℕ) → NewSession s → tables ≡ digitTables → length piece ≡ 16384 → length out ≡ 17 * 16384
-    → TurnRoom newKeys newRows s tables piece out
-new-room {s} piece out new e p o = record { sound = new-runs s new; tables-are = e; answers-fit = omega arith; answer-fits = omega arith }
+-- The loop begins with room for an answer to each byte of a piece.
+pub new-room : {s : Session} {tables : List ℕ} (piece out : List ℕ) → NewSession s → tables ≡ digitTables
+    → leb (answerSize * length piece) (length out) ≡ true → leb answerSize (length out) ≡ true → TurnRoom newKeys newRows s tables piece out
+new-room {s} piece out new e many one =
+    record {
+      sound = new-runs s new;
+      tables-are = e;
+      answers-fit = leb-true (answerSize * length piece) (length out) many;
+      answer-fits = leb-true answerSize (length out) one;
+    }
 
 idle-sound : {keys rows out keys′ rows′ out′ : List ℕ} {s : Session} {t : Handed} → SoundSession keys rows s → Idle keys rows s out t keys′ rows′ out′
     → SoundSession keys′ rows′ (t .session)

@@ -1,7 +1,7 @@
 -- What a turn of the program's loop hands on, as far as a contract can say it: what was read and what became of the bytes written is the
 -- C library's.
 -- Assumes nothing.
-use Prim.Native.Nat.{ℕ, _*_, _≤_, _<_}
+use Prim.Native.Nat.{ℕ, _*_, _≤_}
 use mathlib.Core.Path.{_≡_}
 use mathlib.Core.Bool.{Bool, true, false, _&&_}
 use mathlib.Core.List.{List}

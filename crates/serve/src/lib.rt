@@ -179,7 +179,7 @@ fn goes_on(handed: Handed) -> bool
         Went::On => true,
         Went::InputEnded => false,
         Went::ReadFailed => false,
-        Went::WriteFailed => false,
+        Went::WriteFailed => false, // answers behind a lost one would be taken for others
         Went::LastWriteFailed => false,
     }
 }

@@ -1,7 +1,7 @@
 -- `serve::give` meets its contract. Assumes nothing.
 use mathlib.Core.Path.{sym}
 use lib.Seq.{length-take-le}
-use Rattle.serve.specs.Serving.{Given, taken, failed}
+use Rattle.serve.specs.Serving.{taken, failed}
 use borrow.Author.Needs.{needs}
 use Rattle.serve.proofs.give.Statement.{statement}
 use Rattle.serve.proofs.give.Tie as tie

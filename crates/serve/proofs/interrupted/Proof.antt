@@ -1,5 +1,4 @@
 -- `serve::interrupted` meets its contract. Assumes nothing.
-use Prim.Native.Nat.{ℕ, _-_, suc, _^_}
 use mathlib.Core.Path.{_≡_, refl}
 use native.Mathlib.Omega.{arith}
 use lib.Dec.{eqb}

@@ -24,7 +24,9 @@ slice-aggregate-serve-lines-4 : tie.Need-slice-aggregate-serve-lines-4
 slice-aggregate-serve-lines-4 c = search needs
 
 serve-lines-requires : tie.Need-serve-lines-requires
-serve-lines-requires c κs = new-room _ _ (c .before .before .before .before .before .new-session .ensures) (c .before .before .before .before .before .before .digit-tables .ensures) refl refl
+serve-lines-requires c κs =
+    let started = c .before .before .before .before .before in
+    new-room _ _ (started .new-session .ensures) (started .before .digit-tables .ensures) refl refl
 
 returns : tie.Need-returns
 returns c = search needs

@@ -15,10 +15,17 @@ finish-requires : tie.Need-finish-requires
 finish-requires c κs =
     let ran = c .before .before .before .before .before .before .before .before .before .before .before .before .before .before in
     let start = ran .before .before .before .before .before .before .before .before .before in
-    record { sound = turns-sound (ran .turns .ensures .turns) (start .pre .sound); tables-are = start .pre .tables-are; answer-fits = search (needs, c .before .before .before .before .before .before .before .out .given, start .pre .answer-fits) }
+    record {
+      sound = turns-sound (ran .turns .ensures .turns) (start .pre .sound);
+      tables-are = start .pre .tables-are;
+      answer-fits = search (needs, c .before .before .before .before .before .before .before .out .given, start .pre .answer-fits);
+    }
 
 same-length : tie.Need-same-length
-same-length c = search (needs, c .before .before .before .before .before .keys2 .given, c .before .before .before .before .before .before .before .before .before .before .before .before .before .before .before .before .before .before .before .before .keys .given)
+same-length c =
+    let done = c .before .before .before .before .before in
+    let ran = done .before .before .before .before .before .before .before .before .before .before .before .before .before .before .before in
+    search (needs, done .keys2 .given, ran .keys .given)
 
 same-length-2 : tie.Need-same-length-2
 same-length-2 c = search needs

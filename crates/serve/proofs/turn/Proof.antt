@@ -29,9 +29,11 @@ came c = search needs
 
 returns : tie.Need-returns
 returns c =
-    let told = c .before .before .before .before in
+    let if-failed = c .before .before .before in
+    let told = if-failed .before in
     let read = told .before .before .before in
-    ((rw (c .idle .ensures) (idle-turn _ _ _ _ _ _ _ refl (read .read-some .ensures .0), rw (came told) at (c .before .before .before .if1 .taken))), (read .read-some .ensures .1, refl))
+    let idle = idle-turn _ _ _ _ _ _ _ refl (read .read-some .ensures .0) in
+    (rw (c .idle .ensures) (idle, rw (came told) at (if-failed .if1 .taken)), (read .read-some .ensures .1, refl))
 
 idle-requires-2 : tie.Need-idle-requires-2
 idle-requires-2 c κs = search needs
@@ -41,9 +43,12 @@ same-length-2 c = search needs
 
 returns-2 : tie.Need-returns-2
 returns-2 c =
-    let told = c .before .before .before in
+    let if-none = c .before in
+    let told = if-none .before .before in
     let read = told .before .before .before in
-    ((rw (c .idle2 .ensures) (idle-turn _ _ _ _ _ _ _ refl (read .read-some .ensures .0), is-zero _ (rw (came told) at (c .before .before .if1 .left)) (c .before .if2 .taken))), (read .read-some .ensures .1, refl))
+    let idle = idle-turn _ _ _ _ _ _ _ refl (read .read-some .ensures .0) in
+    let zero = is-zero (read .read-some .result .got) (rw (came told) at (if-none .before .if1 .left)) (if-none .if2 .taken) in
+    (rw (c .idle2 .ensures) (idle, zero), (read .read-some .ensures .1, refl))
 
 count-requires : tie.Need-count-requires
 count-requires c κs = search needs
@@ -67,7 +72,11 @@ same-length-4 : tie.Need-same-length-4
 same-length-4 c = search needs
 
 same-length-5 : tie.Need-same-length-5
-same-length-5 c = c .before .before .before .before .before .before .before .before .before .before .before .before .before .before .before .before .before .before .before .before .before .before .read-some .ensures .1
+same-length-5 c =
+    let ran = c .before .before .before .before .before .before .before .before .before .before in
+    let counted = ran .before .before .before .before .before in
+    let told = counted .before .before .before .before in
+    told .before .before .before .read-some .ensures .1
 
 same-length-6 : tie.Need-same-length-6
 same-length-6 c = search needs
