@@ -22,7 +22,7 @@ use Rattle.machine.specs.Running.{machineIn}
 use Rattle.machine.proofs.Running.{new-machine}
 
 -- the bytes that a call wrote
-front : (out w rest : List ℕ) (n : ℕ) → out ≡ w ++ rest → n ≡ length w → take n out ≡ w
+pub front : (out w rest : List ℕ) (n : ℕ) → out ≡ w ++ rest → n ≡ length w → take n out ≡ w
 front out w rest n e l = ap (λ (k : ℕ). take k out) l ∙ ap (take (length w)) e ∙ take-append-seam w rest
 
 -- From any run that keeps the same of its line as the session does.
@@ -42,11 +42,11 @@ over-writes {keys} {rows} {s = s} (after-piece {piece = piece} {pieces} {out′ 
     ∙ ap (λ (w : List ℕ). feed r piece .written ++ w) later
     ∙ sym (append-assoc (feed r piece .written) (feedPieces (feed r piece .runner) pieces .written) (finish (feedPieces (feed r piece .runner) pieces .runner)))
 
+pub new-alike : (s : Session) → NewSession s → Alike (runnerIn newKeys newRows s) start
+new-alike s new = record { machines = ap (machineIn newKeys newRows) (new .new-scalars) ∙ new-machine newRows refl; lines = ap (take kept) (new .no-line) }
+
 pub run-writes : RunWrites
 run-writes s pieces written new o = over-writes o start (new-alike s new) ∙ pieces-agree pieces
-  where
-    new-alike : (s : Session) → NewSession s → Alike (runnerIn newKeys newRows s) start
-    new-alike s new = record { machines = ap (machineIn newKeys newRows) (new .new-scalars) ∙ new-machine newRows refl; lines = ap (take kept) (new .no-line) }
 
 -- ---- the state of a run
 

@@ -8,7 +8,7 @@ use lib.Dec.{eqb}
 use Rattle.line.specs.Lines.{newline, linesFrom}
 use Rattle.run.specs.Run.{Runner, Fed, after, answersTo, program, endLine, extendLine, feedByte, feed, feedPieces, finish, start, joined, PiecesAgree}
 
-feed-append : (r : Runner) (p q : List ℕ) → feed r (p ++ q) ≡ after (feed r p .written) (feed (feed r p .runner) q)
+pub feed-append : (r : Runner) (p q : List ℕ) → feed r (p ++ q) ≡ after (feed r p .written) (feed (feed r p .runner) q)
 unfolding feed
 feed-append r [] q = refl
 feed-append r (c ∷ p) q =

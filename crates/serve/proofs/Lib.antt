@@ -1,2 +1,4 @@
 mod Within
 mod Serving
+mod Looping
+pub mod Claims

@@ -1,1 +1,3 @@
 pub mod Serving
+pub mod Loop
+pub mod Claims

@@ -1,7 +1,6 @@
 -- `serve::finish` meets its contract. Assumes nothing.
-use mathlib.Core.Path.{sym}
-use lib.Seq.{length-take-le}
 use Rattle.serve.proofs.Within.{end-within}
+use Rattle.serve.proofs.Serving.{all-answered}
 use borrow.Author.Needs.{needs}
 use Rattle.serve.proofs.finish.Statement.{statement}
 use Rattle.serve.proofs.finish.Tie as tie
@@ -9,20 +8,8 @@ use Rattle.serve.proofs.finish.Tie as tie
 run-end-requires : tie.Need-run-end-requires
 run-end-requires c κs = search needs
 
-slice-reshare-prefix-write-all : tie.Need-slice-reshare-prefix-write-all
-slice-reshare-prefix-write-all c = end-within (c .before .before .before .before .before .before .run-end .ensures)
-
-slice-aggregate-write-all : tie.Need-slice-aggregate-write-all
-slice-aggregate-write-all c = sym (length-take-le _ _ (end-within (c .before .before .before .before .before .before .before .run-end .ensures)))
-
-write-all-requires : tie.Need-write-all-requires
-write-all-requires c κs = search needs
-
-slice-aggregate-fail : tie.Need-slice-aggregate-fail
-slice-aggregate-fail c = search needs
-
-fail-requires : tie.Need-fail-requires
-fail-requires c κs = search needs
+give-requires : tie.Need-give-requires
+give-requires c κs = end-within (c .before .before .before .before .before .before .before .run-end .ensures)
 
 same-length : tie.Need-same-length
 same-length c = search needs
@@ -34,35 +21,9 @@ same-length-3 : tie.Need-same-length-3
 same-length-3 c = search needs
 
 returns : tie.Need-returns
-returns c = search needs
-
-same-length-4 : tie.Need-same-length-4
-same-length-4 c = search needs
-
-same-length-5 : tie.Need-same-length-5
-same-length-5 c = search needs
-
-same-length-6 : tie.Need-same-length-6
-same-length-6 c = search needs
-
-returns-2 : tie.Need-returns-2
-returns-2 c = search needs
+returns c = all-answered (c .before .before .before .before .before .before .before .before .run-end .ensures) (c .give .ensures)
 
 pub finish-spec : {M : Type 1} → statement M
 finish-spec =
     tie.close
-    (tie.spec
-    run-end-requires
-    slice-reshare-prefix-write-all
-    slice-aggregate-write-all
-    write-all-requires
-    slice-aggregate-fail
-    fail-requires
-    same-length
-    same-length-2
-    same-length-3
-    returns
-    same-length-4
-    same-length-5
-    same-length-6
-    returns-2)
+    (tie.spec run-end-requires give-requires same-length same-length-2 same-length-3 returns)

@@ -1,7 +1,9 @@
 -- `serve::turn` meets its contract: nothing was read, or what was read was run over. Assumes nothing.
-use mathlib.Core.Path.{refl, sym}
-use lib.Seq.{length-take-le}
+use mathlib.Core.Path.{_≡_, refl}
+use mir.Syntax.{w64}
+use mir.Val.{toZ, ofZ}
 use Rattle.serve.proofs.Within.{ran-within}
+use Rattle.serve.proofs.Serving.{is-zero, is-positive, idle-turn, ranged}
 use borrow.Author.Needs.{needs}
 use Rattle.serve.proofs.turn.Statement.{statement}
 use Rattle.serve.proofs.turn.Tie as tie
@@ -21,8 +23,17 @@ idle-requires c κs = search needs
 same-length : tie.Need-same-length
 same-length c = search needs
 
+-- what the read answered is what the tests ask
+came : (c : tie.After-struct-told2) → toZ w64 (ofZ w64 (c .before .before .before .read-some .result .got)) ≡ c .before .before .before .read-some .result .got
+came c = search needs
+
 returns : tie.Need-returns
-returns c = (rw (c .idle .ensures) (record { same-keys = refl; same-rows = refl; same-session = refl; nothing-read = refl; nothing-written = refl }), (c .before .before .before .before .before .before .read-some .ensures, refl))
+returns c =
+    let if-failed = c .before .before .before in
+    let told = if-failed .before in
+    let read = told .before .before .before in
+    let idle = idle-turn _ _ _ _ _ _ _ refl (read .read-some .ensures .0) in
+    (rw (c .idle .ensures) (idle, rw (came told) at (if-failed .if1 .taken)), (read .read-some .ensures .1, refl))
 
 idle-requires-2 : tie.Need-idle-requires-2
 idle-requires-2 c κs = search needs
@@ -31,7 +42,13 @@ same-length-2 : tie.Need-same-length-2
 same-length-2 c = search needs
 
 returns-2 : tie.Need-returns-2
-returns-2 c = (rw (c .idle2 .ensures) (record { same-keys = refl; same-rows = refl; same-session = refl; nothing-read = refl; nothing-written = refl }), (c .before .before .before .before .before .read-some .ensures, refl))
+returns-2 c =
+    let if-none = c .before in
+    let told = if-none .before .before in
+    let read = told .before .before .before in
+    let idle = idle-turn _ _ _ _ _ _ _ refl (read .read-some .ensures .0) in
+    let zero = is-zero (read .read-some .result .got) (rw (came told) at (if-none .before .if1 .left)) (if-none .if2 .taken) in
+    (rw (c .idle2 .ensures) (idle, zero), (read .read-some .ensures .1, refl))
 
 count-requires : tie.Need-count-requires
 count-requires c κs = search needs
@@ -45,14 +62,8 @@ slice-aggregate-run-piece c = search needs
 run-piece-requires : tie.Need-run-piece-requires
 run-piece-requires c κs = search needs
 
-slice-reshare-prefix-write-all : tie.Need-slice-reshare-prefix-write-all
-slice-reshare-prefix-write-all c = ran-within (c .before .before .before .before .before .before .before .run-piece .ensures)
-
-slice-aggregate-write-all : tie.Need-slice-aggregate-write-all
-slice-aggregate-write-all c = sym (length-take-le _ _ (ran-within (c .before .before .before .before .before .before .before .before .run-piece .ensures)))
-
-write-all-requires : tie.Need-write-all-requires
-write-all-requires c κs = search needs
+give-requires : tie.Need-give-requires
+give-requires c κs = ran-within (c .before .before .before .before .before .before .before .before .before .run-piece .ensures)
 
 same-length-3 : tie.Need-same-length-3
 same-length-3 c = search needs
@@ -61,38 +72,23 @@ same-length-4 : tie.Need-same-length-4
 same-length-4 c = search needs
 
 same-length-5 : tie.Need-same-length-5
-same-length-5 c = search needs
+same-length-5 c =
+    let ran = c .before .before .before .before .before .before .before .before .before .before in
+    let counted = ran .before .before .before .before .before in
+    let told = counted .before .before .before .before in
+    told .before .before .before .read-some .ensures .1
 
 same-length-6 : tie.Need-same-length-6
 same-length-6 c = search needs
 
 returns-3 : tie.Need-returns-3
-returns-3 c = search needs
-
-slice-aggregate-fail-2 : tie.Need-slice-aggregate-fail-2
-slice-aggregate-fail-2 c = search needs
-
-fail-requires-2 : tie.Need-fail-requires-2
-fail-requires-2 c κs = search needs
-
-same-length-7 : tie.Need-same-length-7
-same-length-7 c = search needs
-
-same-length-8 : tie.Need-same-length-8
-same-length-8 c = search needs
-
-same-length-9 : tie.Need-same-length-9
-same-length-9 c = search needs
-
-same-length-10 : tie.Need-same-length-10
-same-length-10 c = search needs
-
-returns-4 : tie.Need-returns-4
-returns-4 c =
-    let ran = c .before .before .before .before .before .before .before .before .before .before .before .before .before in
+returns-3 c =
+    let ran = c .before .before .before .before .before .before .before .before .before .before in
     let counted = ran .before .before .before .before .before in
-    let read = counted .before .before .before .before .before .before in
-    (record { ran = ran .run-piece .ensures; within = search (needs, counted .count .ensures .0) }, (read .read-some .ensures, same-length-10 c))
+    let some = counted .before .before in
+    let told = some .before .before in
+    let positive = is-positive (told .before .before .before .read-some .result .got) (rw (came told) at (some .before .if1 .left)) (some .if2 .left) in
+    (ranged _ (counted .count .ensures .1) (came told) (ran .run-piece .ensures) positive (c .give .ensures), (same-length-5 c, same-length-6 c))
 
 pub turn-spec : {M : Type 1} → statement M
 turn-spec =
@@ -111,18 +107,9 @@ turn-spec =
     slice-reshare-prefix-run-piece
     slice-aggregate-run-piece
     run-piece-requires
-    slice-reshare-prefix-write-all
-    slice-aggregate-write-all
-    write-all-requires
+    give-requires
     same-length-3
     same-length-4
     same-length-5
     same-length-6
-    returns-3
-    slice-aggregate-fail-2
-    fail-requires-2
-    same-length-7
-    same-length-8
-    same-length-9
-    same-length-10
-    returns-4)
+    returns-3)

@@ -1,0 +1,97 @@
+-- The loop: a chain of turns, and what its end comes to.
+-- Assumes nothing.
+use Prim.Native.Nat.{ℕ, _+_}
+use mathlib.Core.Path.{_≡_, refl, ap, _∙_}
+use mathlib.Core.Bool.{true, false}
+use mathlib.Core.Bool as Bool
+use mathlib.Core.List.{List, [], _∷_}
+use lib.ListN.{length, length-append}
+use Rattle.run.specs.declared.Session.{Session}
+use Rattle.run.specs.Session.{SoundSession}
+use Rattle.serve.specs.declared.{Went.Went, Handed.Handed}
+use Rattle.serve.specs.declared.Went.the-variants.{On, InputEnded, ReadFailed, WriteFailed, LastWriteFailed}
+use Rattle.serve.specs.Serving.{isOn, isEnd, isFinal, broughtBy, Turned, Finished}
+use Rattle.serve.specs.Loop.{Turns, one-turn, next-turn, mostTurns, Looped, Ended, Served}
+use Rattle.serve.proofs.Serving.{turned-sound}
+
+-- So many turns were made.
+pub record Reached (keys rows : List ℕ) (s : Session) (t : Handed) (keys′ rows′ piece′ out′ : List ℕ) (n : ℕ) : Type 0 where
+  pub pieces : List (List ℕ)
+  pub given : List ℕ
+  pub turns : Turns keys rows s pieces given t keys′ rows′ piece′ out′
+  pub number : length pieces ≡ n
+
+pub reach-first : {keys rows : List ℕ} {s : Session} (out : List ℕ) (t : Handed) (keys′ rows′ piece′ out′ : List ℕ)
+    → Turned (t .went) keys rows s out t keys′ rows′ piece′ out′ → Reached keys rows s t keys′ rows′ piece′ out′ 1
+reach-first out t keys′ rows′ piece′ out′ turned = record { pieces = _; given = _; turns = one-turn out turned; number = refl }
+
+pub reach-next : {keys rows keys′ rows′ piece′ out′ : List ℕ} {s : Session} {t : Handed} {n : ℕ} (u : Handed) (keys″ rows″ piece″ out″ : List ℕ)
+    → Reached keys rows s t keys′ rows′ piece′ out′ n → isOn (t .went) ≡ true → Turned (u .went) keys′ rows′ (t .session) out′ u keys″ rows″ piece″ out″
+    → Reached keys rows s u keys″ rows″ piece″ out″ (n + 1)
+reach-next {t = t} u keys″ rows″ piece″ out″ r on turned =
+    record {
+      pieces = _;
+      given = _;
+      turns = next-turn (r .turns) (is-on (t .went) on) turned;
+      number = length-append (r .pieces) (broughtBy u piece″ ∷ []) ∙ ap (λ (k : ℕ). k + 1) (r .number);
+    }
+  where
+    is-on : (w : Went) → isOn w ≡ true → w ≡ On
+    is-on On e = refl
+    is-on InputEnded e = absurd (Bool.false≢true e)
+    is-on ReadFailed e = absurd (Bool.false≢true e)
+    is-on WriteFailed e = absurd (Bool.false≢true e)
+    is-on LastWriteFailed e = absurd (Bool.false≢true e)
+
+pub renumber : {keys rows keys′ rows′ piece′ out′ : List ℕ} {s : Session} {t : Handed} {m n : ℕ} → m ≡ n
+    → Reached keys rows s t keys′ rows′ piece′ out′ m → Reached keys rows s t keys′ rows′ piece′ out′ n
+renumber e r = record { pieces = r .pieces; given = r .given; turns = r .turns; number = r .number ∙ e }
+
+-- The loop stops where a turn does not go on, or where all are used up.
+pub looped : {keys rows keys′ rows′ piece′ out′ : List ℕ} {s : Session} {t : Handed} {n : ℕ} → Reached keys rows s t keys′ rows′ piece′ out′ n
+    → (t .went ≡ On → n ≡ mostTurns) → Looped keys rows s t keys′ rows′ piece′ out′
+looped r e = record { pieces = r .pieces; given = r .given; turns = r .turns; used-up = λ on. r .number ∙ e on }
+
+-- ---- where it stopped
+
+pub turns-sound : {keys rows keys′ rows′ piece′ out′ given : List ℕ} {s : Session} {pieces : List (List ℕ)} {t : Handed}
+    → Turns keys rows s pieces given t keys′ rows′ piece′ out′ → SoundSession keys rows s → SoundSession keys′ rows′ (t .session)
+turns-sound {t = t} (one-turn out turned) sound = turned-sound out t _ _ _ _ sound (t .went) turned
+turns-sound {t = t} (next-turn before on turned) sound = turned-sound _ t _ _ _ _ (turns-sound before sound) (t .went) turned
+
+-- No turn writes the last line.
+never-last : {keys rows keys′ rows′ piece′ out′ given : List ℕ} {s : Session} {pieces : List (List ℕ)} {t : Handed}
+    → Turns keys rows s pieces given t keys′ rows′ piece′ out′ → t .went ≡ LastWriteFailed → ⊥
+never-last (one-turn out turned) e = rw e at turned
+never-last (next-turn before on turned) e = rw e at turned
+
+pub served-to-end : {keys rows keys₁ rows₁ piece₁ out₁ out′ : List ℕ} {s : Session} {last t : Handed} (keys′ rows′ piece′ : List ℕ)
+    → Looped keys rows s last keys₁ rows₁ piece₁ out₁ → isEnd (last .went) ≡ true → Finished keys₁ rows₁ last out₁ t out′
+    → Served (t .went) keys rows s t keys′ rows′ piece′ out′
+served-to-end {keys} {rows} {out′ = out′} {s} {last} {t} keys′ rows′ piece′ l e f =
+    by (t .went) (f .at-end) (record { last = last; keys₁ = _; rows₁ = _; piece₁ = _; out₁ = _; looped = l; input-ended = is-end (last .went) e; finished = f })
+  where
+    is-end : (w : Went) → isEnd w ≡ true → w ≡ InputEnded
+    is-end On h = absurd (Bool.false≢true h)
+    is-end InputEnded h = refl
+    is-end ReadFailed h = absurd (Bool.false≢true h)
+    is-end WriteFailed h = absurd (Bool.false≢true h)
+    is-end LastWriteFailed h = absurd (Bool.false≢true h)
+
+    by : (w : Went) → isFinal w ≡ true → Ended keys rows s t out′ → Served w keys rows s t keys′ rows′ piece′ out′
+    by On h d = absurd (Bool.false≢true h)
+    by InputEnded h d = d
+    by ReadFailed h d = absurd (Bool.false≢true h)
+    by WriteFailed h d = absurd (Bool.false≢true h)
+    by LastWriteFailed h d = d
+
+pub served-before-end : {keys rows keys′ rows′ piece′ out′ : List ℕ} {s : Session} {t : Handed} → Looped keys rows s t keys′ rows′ piece′ out′
+    → isEnd (t .went) ≡ false → Served (t .went) keys rows s t keys′ rows′ piece′ out′
+served-before-end {keys} {rows} {keys′} {rows′} {piece′} {out′} {s} {t} l e = by (t .went) refl e
+  where
+    by : (w : Went) → t .went ≡ w → isEnd w ≡ false → Served w keys rows s t keys′ rows′ piece′ out′
+    by On h f = l
+    by InputEnded h f = absurd (Bool.true≢false f)
+    by ReadFailed h f = l
+    by WriteFailed h f = l
+    by LastWriteFailed h f = absurd (never-last (l .turns) h)

@@ -1,0 +1,36 @@
+-- `serve::give` meets its contract. Assumes nothing.
+use mathlib.Core.Path.{sym}
+use lib.Seq.{length-take-le}
+use Rattle.serve.specs.Serving.{taken, failed}
+use borrow.Author.Needs.{needs}
+use Rattle.serve.proofs.give.Statement.{statement}
+use Rattle.serve.proofs.give.Tie as tie
+
+slice-aggregate-write-all : tie.Need-slice-aggregate-write-all
+slice-aggregate-write-all c = sym (length-take-le _ _ (c .before .before .pre))
+
+write-all-requires : tie.Need-write-all-requires
+write-all-requires c κs = search needs
+
+returns : tie.Need-returns
+returns c = taken
+
+slice-aggregate-fail : tie.Need-slice-aggregate-fail
+slice-aggregate-fail c = search needs
+
+fail-requires : tie.Need-fail-requires
+fail-requires c κs = search needs
+
+returns-2 : tie.Need-returns-2
+returns-2 c = failed
+
+pub give-spec : {M : Type 1} → statement M
+give-spec =
+    tie.close
+    (tie.spec
+    slice-aggregate-write-all
+    write-all-requires
+    returns
+    slice-aggregate-fail
+    fail-requires
+    returns-2)

@@ -1,0 +1,79 @@
+-- `serve::serve_lines` meets its contract: the turns, and at the end of the input its last line. Assumes nothing.
+use mathlib.Core.Path.{sym, _∙_}
+use Rattle.serve.proofs.Looping.{turns-sound, served-to-end, served-before-end}
+use borrow.Author.Needs.{needs}
+use Rattle.serve.proofs.serve_lines.Statement.{statement}
+use Rattle.serve.proofs.serve_lines.Tie as tie
+
+turns-requires : tie.Need-turns-requires
+turns-requires c κs = search needs
+
+has-ended-requires : tie.Need-has-ended-requires
+has-ended-requires c κs = search needs
+
+finish-requires : tie.Need-finish-requires
+finish-requires c κs =
+    let ran = c .before .before .before .before .before .before .before .before .before .before .before .before .before .before in
+    let start = ran .before .before .before .before .before .before .before .before .before in
+    record {
+      sound = turns-sound (ran .turns .ensures .turns) (start .pre .sound);
+      tables-are = start .pre .tables-are;
+      answer-fits = search (needs, c .before .before .before .before .before .before .before .out .given, start .pre .answer-fits);
+    }
+
+same-length : tie.Need-same-length
+same-length c =
+    let done = c .before .before .before .before .before in
+    let ran = done .before .before .before .before .before .before .before .before .before .before .before .before .before .before .before in
+    search (needs, done .keys2 .given, ran .keys .given)
+
+same-length-2 : tie.Need-same-length-2
+same-length-2 c = search needs
+
+same-length-3 : tie.Need-same-length-3
+same-length-3 c = search needs
+
+same-length-4 : tie.Need-same-length-4
+same-length-4 c = search needs
+
+returns : tie.Need-returns
+returns c =
+    let done = c .before .before .before .before .before .before in
+    let if-ended = done .before .before .before .before .before in
+    let ran = if-ended .before .before .before .before .before .before .before .before .before .before in
+    served-to-end _ _ _ (ran .turns .ensures) (sym (if-ended .before .has-ended .ensures) ∙ if-ended .if1 .taken) (done .finish .ensures)
+
+same-length-5 : tie.Need-same-length-5
+same-length-5 c = search needs
+
+same-length-6 : tie.Need-same-length-6
+same-length-6 c = search needs
+
+same-length-7 : tie.Need-same-length-7
+same-length-7 c = search needs
+
+same-length-8 : tie.Need-same-length-8
+same-length-8 c = search needs
+
+returns-2 : tie.Need-returns-2
+returns-2 c =
+    let ran = c .before .before .before .before .before .before .before .before .before .before in
+    served-before-end (ran .turns .ensures) (sym (c .before .has-ended .ensures) ∙ c .if1 .left)
+
+pub serve-lines-spec : {M : Type 1} → statement M
+serve-lines-spec =
+    tie.close
+    (tie.spec
+    turns-requires
+    has-ended-requires
+    finish-requires
+    same-length
+    same-length-2
+    same-length-3
+    same-length-4
+    returns
+    same-length-5
+    same-length-6
+    same-length-7
+    same-length-8
+    returns-2)
