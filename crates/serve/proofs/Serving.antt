@@ -17,7 +17,7 @@ use Rattle.io.specs.Counts.{clamped}
 use Rattle.def.specs.State.{slots}
 use Rattle.keys.specs.Keys.{rowsLength}
 use Rattle.whole.specs.Whole.{whole}
-use Rattle.line.specs.Hex.{digitTables}
+use Rattle.hex.specs.Hex.{digitTables}
 use Rattle.machine.specs.declared.{Machine.Machine, Scalars.Scalars}
 use Rattle.machine.specs.Running.{Runs}
 use Rattle.machine.proofs.Running.{new-machine}

@@ -3,6 +3,8 @@
 // fails is said on standard error, with the system's words, and ends the loop.
 use hex::tables::TABLE_SIZE;
 use hex::tables::digit_tables;
+use keys::ROWS;
+use keys::SLOTS;
 use run::Session;
 use run::new_session;
 use run::run_end;
@@ -19,10 +21,6 @@ const PIECE: usize = 16384;
 
 // Room for an answer to each byte of a piece, since each may be a newline.
 const ANSWERS: usize = PIECE * 17;
-
-const SLOTS: usize = 27;
-
-const ROWS: usize = 1533;
 
 // How a turn went, or the whole loop.
 pub enum Went {
