@@ -1,3 +1,4 @@
 pub mod ApartLaws
 pub mod Taken
 pub mod Fitting
+pub mod EntryLaws

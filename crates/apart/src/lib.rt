@@ -1,5 +1,5 @@
 // A state by value taken apart into keys, rows and the rest, and put together again. Any state may be taken apart: a slot that breaks a rule by
-// itself becomes a key that no whole state has.
+// itself becomes a key that no whole state has. Likewise the two lists, in `entries`.
 ghost use mathlib.Core.Path.{_≡_};
 ghost use mathlib.Core.Bool.{true};
 ghost use mathlib.Core.List.{map};
@@ -27,6 +27,8 @@ use keys::key::layer_of;
 use keys::key::number_of;
 use keys::row::read_row;
 use keys::row::write_row;
+
+pub mod entries;
 
 const MAX_PB: u8 = MAX_PB_SIZE as u8;
 

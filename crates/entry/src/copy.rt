@@ -1,7 +1,7 @@
 // An entry goes to place `cnt` of one list unless its number stands among the first `cnt` entries there.
-use crate::entries::head_of;
-use crate::entries::put_lists;
-use crate::entries::take_lists;
+use apart::entries::head_of;
+use apart::entries::put_lists;
+use apart::entries::take_lists;
 use def::CopyResult;
 use def::EvcRefP;
 use def::REFP_PLACES;

@@ -1,8 +1,8 @@
 // The reference lists of a slice, by value.
-use crate::entries::put_lists;
-use crate::entries::take_lists;
 use crate::finished;
 use crate::open_state;
+use apart::entries::put_lists;
+use apart::entries::take_lists;
 use def::Answer;
 use def::EvcPm;
 use def::EvcRefP;

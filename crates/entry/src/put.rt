@@ -1,8 +1,8 @@
 // Put by value: marking, then the leased picture goes into the store.
-use crate::entries::take_lists;
 use crate::finished;
 use crate::not_whole;
 use crate::open_state;
+use apart::entries::take_lists;
 use def::EvcPm;
 use def::EvcRefP;
 use def::PmResult;

@@ -1,6 +1,6 @@
 -- `entry::copy::check_copy_refp` meets its contract: the entry by its parts is the entry. Assumes nothing.
 use Prim.Native.Nat.{_<_}
-use Rattle.entry.proofs.EntryLaws.{entry-parts}
+use Rattle.apart.proofs.EntryLaws.{entry-parts}
 use Rattle.entry.proofs.Opening.{copy-comes-to}
 use borrow.Author.Needs.{needs}
 use Rattle.entry.proofs.copy.check_copy_refp.Statement.{statement}

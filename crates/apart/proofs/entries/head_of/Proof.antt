@@ -1,10 +1,10 @@
--- `entry::entries::head_of` meets its contract: a byte doubled and a bit fit. Assumes nothing.
+-- `apart::entries::head_of` meets its contract: a byte doubled and a bit fit. Assumes nothing.
 use Prim.Native.Nat.{_<_}
 use native.Mathlib.Omega.{arith}
 use Rattle.keys.proofs.KeyLaws.{small}
 use borrow.Author.Needs.{needs}
-use Rattle.entry.proofs.entries.head_of.Statement.{statement}
-use Rattle.entry.proofs.entries.head_of.Tie as tie
+use Rattle.apart.proofs.entries.head_of.Statement.{statement}
+use Rattle.apart.proofs.entries.head_of.Tie as tie
 
 low : (c : tie.Start) → c .args .entry .buf < 256
 low c = search needs

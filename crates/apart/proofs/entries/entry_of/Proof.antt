@@ -1,8 +1,8 @@
--- `entry::entries::entry_of` meets its contract: by what its parts ensure. Assumes nothing.
+-- `apart::entries::entry_of` meets its contract: by what its parts ensure. Assumes nothing.
 use mathlib.Core.Path.{refl}
 use borrow.Author.Needs.{needs}
-use Rattle.entry.proofs.entries.entry_of.Statement.{statement}
-use Rattle.entry.proofs.entries.entry_of.Tie as tie
+use Rattle.apart.proofs.entries.entry_of.Statement.{statement}
+use Rattle.apart.proofs.entries.entry_of.Tie as tie
 
 mul-head : tie.Need-mul-head
 mul-head c = search needs

@@ -12,7 +12,7 @@ ghost use Prim.Native.Nat.{_<_};
 ghost use lib.ListN.{length};
 ghost use Rattle.keys.specs.Keys.{rowsLength, headOf, entryAt, listsIn};
 ghost use Rattle.refp.specs.Running.{EntryStored};
-ghost use Rattle.entry.specs.Entry.{places, ListsTaken};
+ghost use Rattle.apart.specs.Entries.{places, ListsTaken};
 
 // Flag and buffer number of an entry, as one number.
 pub fn head_of(entry: EvcRefP) -> u32

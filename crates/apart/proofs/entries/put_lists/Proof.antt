@@ -1,4 +1,4 @@
--- `entry::entries::put_lists` meets its contract: the entries below place j are made. Assumes nothing.
+-- `apart::entries::put_lists` meets its contract: the entries below place j are made. Assumes nothing.
 use mathlib.Core.Path.{_≡_, refl, ap}
 use mathlib.Core.List.{[], _∷_}
 use Prim.Native.Nat.{_≤_, _-_}
@@ -7,10 +7,10 @@ use lib.ListN.{length, take, length-set}
 use Rattle.seq.specs.Table.{entries, entriesFrom}
 use Rattle.def.specs.declared.{EvcRefP.EvcRefP}
 use Rattle.keys.specs.Keys.{rowsLength, listsIn}
-use Rattle.entry.specs.Entry.{places}
-use Rattle.entry.proofs.EntryLaws.{put-turn, put-end}
-use Rattle.entry.proofs.entries.put_lists.Statement.{statement}
-use Rattle.entry.proofs.entries.put_lists.Tie as tie
+use Rattle.apart.specs.Entries.{places}
+use Rattle.apart.proofs.EntryLaws.{put-turn, put-end}
+use Rattle.apart.proofs.entries.put_lists.Statement.{statement}
+use Rattle.apart.proofs.entries.put_lists.Tie as tie
 
 abbrev Inv-loop : tie.InvT-loop
 Inv-loop rows refp₀ j₀ refp j = (j ≤ places) × (length rows ≡ rowsLength) × (length refp ≡ places) × (take j refp ≡ take j (listsIn rows))

@@ -14,7 +14,7 @@ use Rattle.keys.specs.Keys.{rowsLength, headOf, entryAt, listsIn}
 use Rattle.keys.proofs.KeyLaws.{bit, small}
 use Rattle.refp.specs.Running.{entryWith, EntryStored}
 use Rattle.refp.proofs.Entries.{lists-long, lists-at}
-use Rattle.entry.specs.Entry.{places, ListsTaken}
+use Rattle.apart.specs.Entries.{places, ListsTaken}
 
 -- Twice the buffer number plus the flag is read back.
 pub entry-parts : (e : EvcRefP) → e .buf < 256 → entryWith (headOf e) (e .poc) (e .«list_poc») ≡ e

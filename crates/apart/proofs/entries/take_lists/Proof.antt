@@ -1,14 +1,14 @@
--- `entry::entries::take_lists` meets its contract: the entries below place j are taken. Assumes nothing.
+-- `apart::entries::take_lists` meets its contract: the entries below place j are taken. Assumes nothing.
 use mathlib.Core.Path.{_≡_, refl}
 use Prim.Native.Nat.{_≤_, _-_}
 use native.Mathlib.Omega.{arith}
 use borrow.Author.Needs.{needs}
 use lib.ListN.{length, take}
 use Rattle.keys.specs.Keys.{rowsLength, listsIn}
-use Rattle.entry.specs.Entry.{places}
-use Rattle.entry.proofs.EntryLaws.{take-turn, take-end}
-use Rattle.entry.proofs.entries.take_lists.Statement.{statement}
-use Rattle.entry.proofs.entries.take_lists.Tie as tie
+use Rattle.apart.specs.Entries.{places}
+use Rattle.apart.proofs.EntryLaws.{take-turn, take-end}
+use Rattle.apart.proofs.entries.take_lists.Statement.{statement}
+use Rattle.apart.proofs.entries.take_lists.Tie as tie
 
 abbrev Inv-loop : tie.InvT-loop
 Inv-loop rows₀ refp j₀ rows j = (j ≤ places) × (length refp ≡ places) × (length rows ≡ rowsLength) × (take j (listsIn rows) ≡ take j refp)

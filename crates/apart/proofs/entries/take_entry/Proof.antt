@@ -1,4 +1,4 @@
--- `entry::entries::take_entry` meets its contract: flag and buffer number, number and row are the entry's. Assumes nothing.
+-- `apart::entries::take_entry` meets its contract: flag and buffer number, number and row are the entry's. Assumes nothing.
 use mathlib.Core.Path.{_≡_, sym, _∙_, subst}
 use Prim.Native.Nat.{_+_, _*_, _<_}
 use native.Mathlib.Omega.{arith}
@@ -8,10 +8,10 @@ use Rattle.def.specs.declared.{EvcRefP.EvcRefP}
 use Rattle.keys.specs.Keys.{rowLength, headRow, numberRow, entryRow, headOf}
 use Rattle.refp.specs.Running.{EntryStored}
 use Rattle.refp.proofs.Entries.{entry-stored}
-use Rattle.entry.proofs.EntryLaws.{entry-parts}
+use Rattle.apart.proofs.EntryLaws.{entry-parts}
 use borrow.Author.Needs.{needs}
-use Rattle.entry.proofs.entries.take_entry.Statement.{statement}
-use Rattle.entry.proofs.entries.take_entry.Tie as tie
+use Rattle.apart.proofs.entries.take_entry.Statement.{statement}
+use Rattle.apart.proofs.entries.take_entry.Tie as tie
 
 low : (c : tie.Start) → c .args .entry .buf < 256
 low c = search needs
