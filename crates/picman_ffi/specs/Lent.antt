@@ -1,6 +1,6 @@
 -- What a function gives C, and what stands in the lent buffers once it returns.
 -- Assumes nothing.
-use Prim.Native.Nat.{ℕ}
+use Prim.Native.Nat.{ℕ, _≤_}
 use mathlib.Core.Path.{_≡_}
 use mathlib.Core.Bool.{true}
 use mathlib.Core.List.{List}
@@ -10,6 +10,10 @@ use Rattle.machine.specs.declared.Machine.{Machine}
 -- The number that is given where a size or a flag byte does not fit, and for a bad call: document 01's bad line.
 abbrev pub badLine : ℕ
 badLine = 18
+
+-- The numbers of refusals: a call that gives one has been turned down.
+abbrev pub TurnedDown : ℕ → Type 0
+TurnedDown n = (1 ≤ n) × (n ≤ 18)
 
 pub record Left : Type 0 where
   pub given : ℕ

@@ -2,4 +2,4 @@ pub mod Lent
 pub mod Depths
 pub mod Copied
 pub mod Called
-pub mod TurnedDown
+pub mod Claims

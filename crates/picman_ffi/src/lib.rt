@@ -1,6 +1,7 @@
 // The static library for C and Rust: five functions over lent bytes, thin over the crates below. Where a size or a flag byte does not fit,
 // a function gives 18 and writes nothing. In the contracts `given` says, byte for byte, what is given and what the lent buffers hold then;
-// `holds` says that the bytes are an image again, from which the next call reads the machine that this one left.
+// `holds` says that the bytes are an image again, from which the next call reads the machine that this one left; `kept` says that a call
+// that is turned down, with a number from 1 to 18, leaves the image as it was.
 
 use entry::copy::check_copy_refp;
 use image::is_flag;
@@ -24,16 +25,14 @@ use tbl::SliceDepth;
 use tbl::slice_depth;
 use tbl::slice_depth_p;
 ghost use mathlib.Core.Path.{_≡_};
-ghost use mathlib.Core.Bool.{true};
 ghost use lib.ListN.{length};
 ghost use Rattle.tbl.specs.DepthRows.{sliceDepth, sliceDepthP};
-ghost use Rattle.line.specs.Calls.{callFrom};
 ghost use Rattle.line.specs.Answers.{badLineReply};
-ghost use Rattle.image.specs.Image.{refpWidth, imageLength, isImage};
-ghost use Rattle.machine.specs.Step.{newMachine, step, stepLine};
+ghost use Rattle.image.specs.Image.{refpWidth, imageLength};
+ghost use Rattle.machine.specs.Step.{step};
 ghost use Rattle.picman_ffi.specs.Lent.{badLine, left, answered, machineOf, machineBytes, Holds};
-ghost use Rattle.picman_ffi.specs.Called.{answerLength, answerBytes, renewed, replied, called};
-ghost use Rattle.picman_ffi.specs.Copied.{isEntry, copyInto, withLists, relisted, copied};
+ghost use Rattle.picman_ffi.specs.Called.{answerLength, answerBytes, replied, Renews, Answers};
+ghost use Rattle.picman_ffi.specs.Copied.{isEntry, copyInto, withLists, relisted, Copies};
 ghost use Rattle.picman_ffi.specs.Depths.{depthOrZero};
 
 // Where a size or a flag byte does not fit, and for a bad call: document 01's bad line.
@@ -73,8 +72,7 @@ fn write_machine(image: &mut [u8], machine: Machine)
 // Writes the new machine, whatever the image held: 0.
 #[no_mangle]
 pub extern "C" fn picman_new(image: &mut [u8]) -> u8
-    ensures given { λ r. ⌜ left r (now (image .exit)) ≡ renewed (now (image .entry)) ⌝ }
-    ensures holds { λ _. ⌜ (length (now (image .entry)) ≡ imageLength → Holds (now (image .exit)) newMachine) ⌝ }
+    ensures { λ r. ⌜ Renews r (now (image .entry)) (now (image .exit)) ⌝ }
 {
     if image.len() != IMAGE_LENGTH {
         return BAD_LINE;
@@ -124,8 +122,7 @@ fn answer_bad(answer: &mut [u8]) -> u8
 // One call: the bytes of a call line, check byte too, not in hex. Writes the answer and gives its status.
 #[no_mangle]
 pub extern "C" fn picman_call(image: &mut [u8], call: &[u8], answer: &mut [u8]) -> u8
-    ensures given { λ r. ⌜ answered r (now (image .exit)) (now (answer .exit)) ≡ called (now (image .entry)) (now (call .entry)) (now (answer .entry)) ⌝ }
-    ensures holds { λ _. ⌜ (isImage (now (image .entry)) ≡ true → length (now (answer .entry)) ≡ answerLength → Holds (now (image .exit)) (stepLine (machineOf (now (image .entry))) (callFrom (now (call .entry))) .machine)) ⌝ }
+    ensures { λ r. ⌜ Answers r (now (image .entry)) (now (call .entry)) (now (answer .entry)) (now (image .exit)) (now (answer .exit)) ⌝ }
 {
     if !is_image(image) {
         return BAD_LINE;
@@ -170,8 +167,7 @@ fn copy_entry(image: &mut [u8], cnt: u64, lidx: u64, entry: &[u8]) -> u8
 // Writes an entry at place `cnt` of one list: 0, or 13 or 14.
 #[no_mangle]
 pub extern "C" fn picman_copy_refp(image: &mut [u8], cnt: u64, lidx: u64, entry: &[u8]) -> u8
-    ensures given { λ r. ⌜ left r (now (image .exit)) ≡ copied (now (image .entry)) cnt lidx (now (entry .entry)) ⌝ }
-    ensures holds { λ _. ⌜ (isImage (now (image .entry)) ≡ true → isEntry (now (entry .entry)) ≡ true → Holds (now (image .exit)) (withLists (machineOf (now (image .entry))) (copyInto (now (image .entry)) cnt lidx (now (entry .entry)) .refp))) ⌝ }
+    ensures { λ r. ⌜ Copies r (now (image .entry)) cnt lidx (now (entry .entry)) (now (image .exit)) ⌝ }
 {
     if !is_image(image) {
         return BAD_LINE;

@@ -1,9 +1,9 @@
--- A function that turns its call down, with a number from 1 to 18, leaves the image as it was.
+-- A function that turns its call down leaves the image as it was: of the definitions, and so of what stands in the image.
 -- Assumes nothing.
-use mathlib.Core.Path.{_≡_, refl, ap, _∙_}
+use mathlib.Core.Path.{_≡_, refl, ap, subst, _∙_}
 use mathlib.Core.Bool.{Bool, true, false, cond, _&&_}
 use mathlib.Core.List.{List}
-use Prim.Native.Nat.{ℕ, _≤_}
+use Prim.Native.Nat.{ℕ}
 use native.Mathlib.Omega.{arith}
 use lib.Dec.{eqb}
 use lib.ListN.{length}
@@ -18,13 +18,16 @@ use Rattle.image.specs.Image.{imageLength, Bytes, refpAt, refpOf, isImage}
 use Rattle.image.specs.BytesKept.{bytes-kept}
 use Rattle.machine.specs.Step.{newMachine}
 use Rattle.machine.proofs.EveryCall.{refused-answer, call-unchanged}
-use Rattle.picman_ffi.specs.Lent.{badLine, Left, left, Answered, answered, machineOf, machineBytes}
+use Rattle.picman_ffi.specs.Lent.{badLine, TurnedDown, Left, left, Answered, answered, machineOf, machineBytes}
 use Rattle.picman_ffi.specs.Copied.{isEntry, copyInto, withLists, relisted, copied}
 use Rattle.picman_ffi.specs.Called.{answerLength, answerTo, renewed, called}
 
--- A number from 1 to 18.
-abbrev pub TurnedDown : ℕ → Type 0
-TurnedDown n = (1 ≤ n) × (n ≤ 18)
+-- from what a definition leaves to what a buffer holds
+pub left-kept : {r : ℕ} {image image′ : List ℕ} {x : Left} → left r image′ ≡ x → (TurnedDown (x .given) → x .image ≡ image) → TurnedDown r → image′ ≡ image
+left-kept e f t = ap (λ (y : Left). y .image) e ∙ f (subst TurnedDown (ap (λ (y : Left). y .given) e) t)
+
+pub answered-kept : {r : ℕ} {image image′ answer′ : List ℕ} {x : Answered} → answered r image′ answer′ ≡ x → (TurnedDown (x .given) → x .image ≡ image) → TurnedDown r → image′ ≡ image
+answered-kept e f t = ap (λ (y : Answered). y .image) e ∙ f (subst TurnedDown (ap (λ (y : Answered). y .given) e) t)
 
 pub new-kept : (image : List ℕ) → TurnedDown (renewed image .given) → renewed image .image ≡ image
 unfolding renewed
