@@ -15,7 +15,7 @@ use Rattle.line.specs.Answers.{replyBytes, badLineReply}
 use Rattle.image.specs.Image.{imageLength, imageBytes, pmOf, refpOf, pocOf, isImage}
 use Rattle.machine.specs.declared.Stepped.{Stepped}
 use Rattle.machine.specs.Step.{newMachine, step, stepLine}
-use Rattle.picman_ffi.specs.Lent.{badLine, TurnedDown, Left, left, Answered, answered, machineOf, machineBytes, Holds}
+use Rattle.exchange.specs.Lent.{badLine, TurnedDown, Left, left, machineOf, machineBytes, Holds}
 
 -- `picman_new`: the new machine, whatever the bytes were. Another length is 18, and nothing is written.
 unfoldable pub renewed : List ℕ → Left
@@ -27,6 +27,15 @@ pub record Renews (r : ℕ) (image image′ : List ℕ) : Type 0 where
   pub given : left r image′ ≡ renewed image
   pub holds : length image ≡ imageLength → Holds image′ newMachine
   pub kept : TurnedDown r → image′ ≡ image
+
+-- What a function gives, and what stands in the lent buffers, where one for an answer is lent too.
+pub record Answered : Type 0 where
+  pub given : ℕ
+  pub image : List ℕ
+  pub answer : List ℕ
+
+abbrev pub answered : ℕ → List ℕ → List ℕ → Answered
+answered n image answer = record { given = n; image = image; answer = answer }
 
 -- The bytes of an answer, check byte last.
 abbrev pub answerLength : ℕ

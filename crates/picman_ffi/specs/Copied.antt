@@ -13,7 +13,7 @@ use Rattle.line.specs.Answers.{replyOf}
 use Rattle.image.specs.Image.{refpWidth, imageBytes, pmOf, refpAt, refpOf, pocOf, isFlag, isImage}
 use Rattle.refp.specs.Copy.{copy}
 use Rattle.machine.specs.declared.Machine.{Machine}
-use Rattle.picman_ffi.specs.Lent.{badLine, TurnedDown, Left, left, machineOf, machineBytes, Holds}
+use Rattle.exchange.specs.Lent.{badLine, TurnedDown, Left, left, machineOf, machineBytes, Holds}
 
 -- A list entry as bytes: 90 of them, the first a flag.
 abbrev pub isEntry : List ℕ → Bool

@@ -1,4 +1,3 @@
-pub mod Lent
 pub mod Depths
 pub mod Copied
 pub mod Called

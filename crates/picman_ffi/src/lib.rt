@@ -1,16 +1,14 @@
-// The static library for C and Rust: five functions over lent bytes, thin over the crates below. Where a size or a flag byte does not fit,
+// The static library for C and Rust: functions over lent memory, thin over the crates below. Where a size or a flag byte does not fit,
 // a function gives 18 and writes nothing. In the contracts `given` says, byte for byte, what is given and what the lent buffers hold then;
 // `holds` says that the bytes are an image again, from which the next call reads the machine that this one left; `kept` says that a call
 // that is turned down, with a number from 1 to 18, leaves the image as it was.
 
 use entry::copy::check_copy_refp;
+use exchange::read_machine;
+use exchange::write_machine;
 use image::is_flag;
 use image::is_image;
-use image::read::read_pm;
-use image::read::read_poc;
 use image::read::read_refp;
-use image::read::read_refps;
-use image::write::write_image;
 use line::Call;
 use line::Line;
 use line::Reply;
@@ -18,7 +16,6 @@ use line::answer_bytes;
 use line::buffer::paste;
 use line::read_call;
 use line::reply_of;
-use machine::Machine;
 use machine::fresh::new_machine;
 use stepping::step;
 use tbl::SliceDepth;
@@ -30,10 +27,12 @@ ghost use Rattle.tbl.specs.DepthRows.{sliceDepth, sliceDepthP};
 ghost use Rattle.line.specs.Answers.{badLineReply};
 ghost use Rattle.image.specs.Image.{refpWidth, imageLength};
 ghost use Rattle.machine.specs.Step.{step};
-ghost use Rattle.picman_ffi.specs.Lent.{badLine, left, answered, machineOf, machineBytes, Holds};
-ghost use Rattle.picman_ffi.specs.Called.{answerLength, answerBytes, replied, Renews, Answers};
+ghost use Rattle.exchange.specs.Lent.{badLine, left, machineOf, Holds};
+ghost use Rattle.picman_ffi.specs.Called.{answered, answerLength, answerBytes, replied, Renews, Answers};
 ghost use Rattle.picman_ffi.specs.Copied.{isEntry, copyInto, withLists, relisted, Copies};
 ghost use Rattle.picman_ffi.specs.Depths.{depthOrZero};
+
+pub mod exchanged;
 
 // Where a size or a flag byte does not fit, and for a bad call: document 01's bad line.
 const BAD_LINE: u8 = 18;
@@ -47,27 +46,6 @@ const IMAGE_LENGTH: usize = 6407;
 const ANSWER_LENGTH: usize = 8;
 
 const ENTRY_LENGTH: usize = 90;
-
-fn read_machine(image: &[u8]) -> Machine
-    requires { ⌜ length (now image) ≡ imageLength ⌝ }
-    ensures { λ r. ⌜ r ≡ machineOf (now (image .entry)) ⌝ }
-{
-    let pm = read_pm(image);
-    let refp = read_refps(image);
-    let poc = read_poc(image);
-    Machine { pm, refp, poc }
-}
-
-fn write_machine(image: &mut [u8], machine: Machine)
-    requires { ⌜ length (now image) ≡ imageLength ⌝ }
-    ensures bytes { λ _. ⌜ now (image .exit) ≡ machineBytes machine ⌝ }
-    ensures holds { λ _. ⌜ Holds (now (image .exit)) machine ⌝ }
-{
-    let pm = machine.pm;
-    let refp = machine.refp;
-    let poc = machine.poc;
-    write_image(image, pm, refp, poc);
-}
 
 // Writes the new machine, whatever the image held: 0.
 #[no_mangle]

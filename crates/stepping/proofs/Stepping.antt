@@ -21,7 +21,7 @@ use Rattle.line.specs.Answers.{replyOf}
 use Rattle.machine.specs.declared.{Machine.Machine, Stepped.Stepped, Scalars.Scalars, Made.Made}
 use Rattle.machine.specs.Step.{stepped, step}
 use Rattle.machine.specs.Running.{machineIn, readsState, callByte, Runs, Makes}
-use Rattle.machine.specs.Claims.{TurnedDown, Sound}
+use Rattle.machine.specs.Claims.{TurnedDown}
 use Rattle.machine.proofs.EveryCall.{call-unchanged, call-sound}
 use Rattle.machine.proofs.Running.{not-whole-step}
 use Rattle.stepping.specs.Parts.{TakenMachine}

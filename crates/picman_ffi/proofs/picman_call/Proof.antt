@@ -12,8 +12,8 @@ use Rattle.line.specs.Calls.{callFrom}
 use Rattle.image.specs.Image.{Bytes, isImage}
 use Rattle.machine.specs.declared.Machine.{Machine}
 use Rattle.machine.specs.Step.{stepLine}
-use Rattle.picman_ffi.specs.Lent.{answered, machineOf, Holds}
-use Rattle.picman_ffi.specs.Called.{answerLength, answerTo, called, Answers}
+use Rattle.exchange.specs.Lent.{machineOf, Holds}
+use Rattle.picman_ffi.specs.Called.{answered, answerLength, answerTo, called, Answers}
 use Rattle.image.specs.BytesKept.{image-long}
 use Rattle.picman_ffi.proofs.TurnedDown.{answered-kept, call-kept}
 use borrow.Author.Needs.{needs}

@@ -10,7 +10,7 @@ use lib.ListN.{length}
 use borrow.Author.Tests.{not-true, not-false, eqb-true}
 use Rattle.seq.specs.All.{and-left}
 use Rattle.image.specs.Image.{refpWidth, Bytes, isFlag, isImage}
-use Rattle.picman_ffi.specs.Lent.{Left, left, machineOf, Holds}
+use Rattle.exchange.specs.Lent.{Left, left, machineOf, Holds}
 use Rattle.picman_ffi.specs.Copied.{isEntry, copyInto, withLists, relisted, copied, Copies}
 use Rattle.image.specs.BytesKept.{image-long}
 use Rattle.picman_ffi.proofs.TurnedDown.{left-kept, copy-kept}

@@ -7,7 +7,7 @@ use lib.ListN.{length}
 use borrow.Author.Tests.{eq-eqb, ne-eqb}
 use Rattle.image.specs.Image.{imageLength}
 use Rattle.picman_ffi.specs.Called.{renewed, Renews}
-use Rattle.picman_ffi.specs.Lent.{left, Holds}
+use Rattle.exchange.specs.Lent.{left, Holds}
 use Rattle.machine.specs.Step.{newMachine}
 use Rattle.picman_ffi.proofs.TurnedDown.{left-kept, new-kept}
 use borrow.Author.Needs.{needs}

@@ -1,8 +1,8 @@
--- `picman_ffi::read_machine` meets its contract: the callees' contracts, last call first.
+-- `exchange::read_machine` meets its contract: the callees' contracts, last call first.
 -- Assumes nothing.
 use borrow.Author.Needs.{needs}
-use Rattle.picman_ffi.proofs.read_machine.Statement.{statement}
-use Rattle.picman_ffi.proofs.read_machine.Tie as tie
+use Rattle.exchange.proofs.read_machine.Statement.{statement}
+use Rattle.exchange.proofs.read_machine.Tie as tie
 
 read-pm-requires : tie.Need-read-pm-requires
 read-pm-requires c κs = search needs

@@ -26,7 +26,7 @@ use Rattle.image.specs.Fits.{FitsWord, ListFits, SlotFits, PmFits, RefPFits, Po
 use Rattle.image.specs.ContentsKept.{contents-kept}
 use Rattle.image.specs.ContentsImage.{contents-image}
 use Rattle.machine.specs.declared.Machine.{Machine}
-use Rattle.picman_ffi.specs.Lent.{machineBytes, Holds}
+use Rattle.exchange.specs.Lent.{machineBytes, Holds}
 
 -- an array: its length, and what holds of each element
 module _ (F : Field) (P : F .Value → Type 0) (tells : (x : F .Value) (vs : List Val) → Is (F .row) (F .into x) vs → P x) where

@@ -1,4 +1,4 @@
--- What a function gives C, and what stands in the lent buffers once it returns.
+-- An image that is lent: the machine that it holds, and what a function gives and leaves in it once it returns.
 -- Assumes nothing.
 use Prim.Native.Nat.{ℕ, _≤_}
 use mathlib.Core.Path.{_≡_}
@@ -11,6 +11,10 @@ use Rattle.machine.specs.declared.Machine.{Machine}
 abbrev pub badLine : ℕ
 badLine = 18
 
+-- The number that is given where a state is not whole.
+abbrev pub notWhole : ℕ
+notWhole = 7
+
 -- The numbers of refusals: a call that gives one has been turned down.
 abbrev pub TurnedDown : ℕ → Type 0
 TurnedDown n = (1 ≤ n) × (n ≤ 18)
@@ -21,15 +25,6 @@ pub record Left : Type 0 where
 
 abbrev pub left : ℕ → List ℕ → Left
 left n image = record { given = n; image = image }
-
--- The same where a buffer for an answer is lent too.
-pub record Answered : Type 0 where
-  pub given : ℕ
-  pub image : List ℕ
-  pub answer : List ℕ
-
-abbrev pub answered : ℕ → List ℕ → List ℕ → Answered
-answered n image answer = record { given = n; image = image; answer = answer }
 
 -- The machine that an image holds, and the image of a machine.
 abbrev pub machineOf : List ℕ → Machine

@@ -1,9 +1,9 @@
--- `picman_ffi::write_machine` meets its contract: the whole image is written, and a machine that is passed fits it.
+-- `exchange::write_machine` meets its contract: the whole image is written, and a machine that is passed fits it.
 -- Assumes nothing.
 use borrow.Author.Needs.{needs}
-use Rattle.picman_ffi.proofs.Ranges.{holds}
-use Rattle.picman_ffi.proofs.write_machine.Statement.{statement}
-use Rattle.picman_ffi.proofs.write_machine.Tie as tie
+use Rattle.exchange.proofs.Ranges.{holds}
+use Rattle.exchange.proofs.write_machine.Statement.{statement}
+use Rattle.exchange.proofs.write_machine.Tie as tie
 
 write-image-requires : tie.Need-write-image-requires
 write-image-requires c κs = search needs
