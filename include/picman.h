@@ -1,4 +1,4 @@
-/* The proved picture manager: five functions over bytes that the caller lends.
+/* The proved picture manager: functions over memory that the caller lends.
  *
  * An image holds a whole machine, big-endian: 27 slots and then the lease, 93 bytes each (present, buffer number,
  * is_ref, need_for_out, temporal_id, poc 4, list_poc 21 x 4); max_pb_size, max_num_ref_pics, cur_pb_size,
@@ -18,6 +18,10 @@
 #define PICMAN_ANSWER 8
 #define PICMAN_ENTRY 90
 #define PICMAN_BAD 18
+#define PICMAN_STATE_NOT_WHOLE 7
+#define PICMAN_KEYS 27
+#define PICMAN_ROW_NUMBERS 1533
+#define PICMAN_REGISTERS 13
 
 #ifdef __cplusplus
 extern "C" {
@@ -35,6 +39,15 @@ uint8_t picman_call(uint8_t *image, size_t len, const uint8_t *call, size_t call
  * there is no such place. */
 uint8_t picman_copy_refp(uint8_t *image, size_t len, uint64_t cnt, uint64_t lidx, const uint8_t *entry,
                          size_t entry_len);
+
+/* The running machine is three arrays, of 27, 1,533 and 13 numbers. Load writes the machine of an image into them, save
+ * the image of their machine: 0. PICMAN_BAD where a length is another, or a flag byte of the image that is loaded is
+ * neither 0 nor 1; PICMAN_STATE_NOT_WHOLE where the state is not whole. Nothing is written then. Load leaves the rows of
+ * buffers that no slot and no lease holds as they were. */
+uint8_t picman_machine_load(uint64_t *keys, size_t keys_len, uint32_t *rows, size_t rows_len, uint32_t *registers,
+                            size_t registers_len, const uint8_t *image, size_t image_len);
+uint8_t picman_machine_save(const uint64_t *keys, size_t keys_len, const uint32_t *rows, size_t rows_len,
+                            const uint32_t *registers, size_t registers_len, uint8_t *image, size_t image_len);
 
 /* The depth at a position of a group with a hierarchy of B slices, and of a group of P slices; 0 where there is
  * none. */

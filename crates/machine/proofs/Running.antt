@@ -25,7 +25,7 @@ use Rattle.def.specs.declared.Answer.the-variants.{Refused}
 use Rattle.def.specs.declared.Refusal.the-variants.{StateNotWhole}
 use Rattle.line.specs.Answers.{replyOf}
 use Rattle.machine.specs.declared.{Machine.Machine, Stepped.Stepped, Scalars.Scalars, Made.Made}
-use Rattle.machine.specs.Step.{newRefP, newLists, newMachine, putCallOf, refpCallOf, onState, onLists, onRecord, step, stepLine}
+use Rattle.machine.specs.Step.{newRefP, newLists, newMachine, putCallOf, refpCallOf, stepped, onState, onLists, onRecord, step, stepLine}
 use Rattle.machine.specs.Running.{machineIn, newScalars, readsState, callByte, isReady, Runs, CallRoom, Makes, madeOf, derivedOf}
 use Rattle.machine.specs.Claims.{Sound}
 use Rattle.machine.proofs.EveryCall.{refused-answer, refused-number, line-sound}
@@ -158,29 +158,26 @@ by-call {r} {s} {keys} {rows} {keys′} {rows′} e c = subst (λ (x : Call). Ma
 pub ready-room : {keys rows : List ℕ} {s : Scalars} (call : Call) → Sized keys rows → isReady keys rows s call ≡ true → CallRoom keys rows s call
 ready-room {keys} {rows} {s} call sized e = record { sized = sized; ready = λ r. rw r at e }
 
+-- a state that is not whole turns every call that reads it down with 7
+pub not-whole-step : (m : Machine) (call : Call) → readsState call ≡ true → whole (m .pm) ≡ false
+    → step m call ≡ stepped (replyOf (callByte call) (Refused StateNotWhole)) m
+unfolding step init get out putMarked lists
+not-whole-step m (Init size refs) r w = rw w
+not-whole-step m GetEmptyPic r w = rw w
+not-whole-step m (PutPic flags poc tid gap) r w = not-whole-put (putCallOf flags poc tid gap)
+  where
+    not-whole-put : (c : PutCall) → onState 3 m (put (m .pm) (m .refp) c) ≡ stepped (replyOf 3 (Refused StateNotWhole)) m
+    not-whole-put c = ap (λ (b : Bool). onState 3 m (putMarked b (m .pm) (remarked c (m .pm)) (m .refp) c)) w
+not-whole-step m OutPic r w = rw w
+not-whole-step m (RefpInit slice poc layer intra limit) r w = not-whole-lists (refpCallOf slice poc layer intra limit)
+  where
+    not-whole-lists : (c : RefpCall) → onLists 5 m (lists (m .pm) (m .refp) c) ≡ stepped (replyOf 5 (Refused StateNotWhole)) m
+    not-whole-lists c = rw w
+not-whole-step m (PocDerivation L t) r w = absurd (Bool.false≢true r)
+
 module _ {keys rows : List ℕ} (s : Scalars) (sized : Sized keys rows) where
   abbrev refusedMade : Call → Made
   refusedMade call = madeOf (callByte call) (record { answer = Refused StateNotWhole; rest = s .rest }) (s .poc)
-
-  not-whole-step : (call : Call) → readsState call ≡ true → whole (stands keys rows (s .rest)) ≡ false
-      → step (machineIn keys rows s) call ≡ record { reply = refusedMade call .reply; machine = machineIn keys rows s }
-  unfolding step init get out putMarked lists
-  not-whole-step (Init size refs) r w = rw w
-  not-whole-step GetEmptyPic r w = rw w
-  not-whole-step (PutPic flags poc tid gap) r w = not-whole-put (putCallOf flags poc tid gap) w
-    where
-      not-whole-put : (c : PutCall) → whole (stands keys rows (s .rest)) ≡ false
-          → onState 3 (machineIn keys rows s) (put (stands keys rows (s .rest)) (listsIn rows) c)
-          ≡ record { reply = replyOf 3 (Refused StateNotWhole); machine = machineIn keys rows s }
-      not-whole-put c w = ap (λ (b : Bool). onState 3 (machineIn keys rows s) (putMarked b (stands keys rows (s .rest)) (remarked c (stands keys rows (s .rest))) (listsIn rows) c)) w
-  not-whole-step OutPic r w = rw w
-  not-whole-step (RefpInit slice poc layer intra limit) r w = not-whole-lists (refpCallOf slice poc layer intra limit) w
-    where
-      not-whole-lists : (c : RefpCall) → whole (stands keys rows (s .rest)) ≡ false
-          → onLists 5 (machineIn keys rows s) (lists (stands keys rows (s .rest)) (listsIn rows) c)
-          ≡ record { reply = replyOf 5 (Refused StateNotWhole); machine = machineIn keys rows s }
-      not-whole-lists c w = rw w
-  not-whole-step (PocDerivation L t) r w = absurd (Bool.false≢true r)
 
   pub refused-makes : (call : Call) → isReady keys rows s call ≡ false → (made : Made) → made ≡ refusedMade call
       → Makes made s keys rows keys rows (step (machineIn keys rows s) call)
@@ -189,7 +186,7 @@ module _ {keys rows : List ℕ} (s : Scalars) (sized : Sized keys rows) where
       both : (b : Bool) → readsState call ≡ b → (w : Bool) → whole (stands keys rows (s .rest)) ≡ w → (not b || w) ≡ false → Makes made s keys rows keys rows (step (machineIn keys rows s) call)
       both false r w v x = absurd (Bool.true≢false x)
       both true r true v x = absurd (Bool.true≢false x)
-      both true r false v x = rw (e, not-whole-step call r v) (record {
+      both true r false v x = rw (e, not-whole-step (machineIn keys rows s) call r v) (record {
         replies = refl;
         machine-is = refl;
         still-sized = sized;

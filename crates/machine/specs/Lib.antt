@@ -1,3 +1,4 @@
 pub mod Step
 pub mod Running
+pub mod Lent
 pub mod Claims

@@ -134,7 +134,7 @@ fn poc_call(s: Scalars, log2_sub_gop_length: u8, tid: u8) -> Made
 }
 
 // Whether a call reads the state.
-fn reads_state(call: Call) -> bool
+pub fn reads_state(call: Call) -> bool
     ensures { λ r. ⌜ r ≡ readsState call ⌝ }
 {
     match call {

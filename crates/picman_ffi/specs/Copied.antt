@@ -1,7 +1,8 @@
 -- `picman_copy_refp`: what it gives, and the image as it leaves it.
 -- Assumes nothing.
 use Prim.Native.Nat.{ℕ}
-use mathlib.Core.Bool.{Bool, cond, _&&_}
+use mathlib.Core.Path.{_≡_}
+use mathlib.Core.Bool.{Bool, true, cond, _&&_}
 use mathlib.Core.List.{List}
 use lib.Dec.{eqb}
 use lib.ListN.{length}
@@ -12,7 +13,7 @@ use Rattle.line.specs.Answers.{replyOf}
 use Rattle.image.specs.Image.{refpWidth, imageBytes, pmOf, refpAt, refpOf, pocOf, isFlag, isImage}
 use Rattle.refp.specs.Copy.{copy}
 use Rattle.machine.specs.declared.Machine.{Machine}
-use Rattle.picman_ffi.specs.Lent.{badLine, Left, left, machineOf, machineBytes}
+use Rattle.exchange.specs.Lent.{badLine, TurnedDown, Left, left, machineOf, machineBytes, Holds}
 
 -- A list entry as bytes: 90 of them, the first a flag.
 abbrev pub isEntry : List ℕ → Bool
@@ -36,3 +37,9 @@ relisted image r = left (statusOf (r .answer)) (machineBytes (withLists (machine
 unfoldable pub copied : List ℕ → ℕ → ℕ → List ℕ → Left
 unfolding imageBytes pmOf refpAt refpOf pocOf isImage copy
 copied image cnt lidx entry = cond (isImage image && isEntry entry) (relisted image (copyInto image cnt lidx entry)) (left badLine image)
+
+-- What holds of it, with the image that came and the one that is left.
+pub record Copies (r : ℕ) (image : List ℕ) (cnt lidx : ℕ) (entry image′ : List ℕ) : Type 0 where
+  pub given : left r image′ ≡ copied image cnt lidx entry
+  pub holds : isImage image ≡ true → isEntry entry ≡ true → Holds image′ (withLists (machineOf image) (copyInto image cnt lidx entry .refp))
+  pub kept : TurnedDown r → image′ ≡ image

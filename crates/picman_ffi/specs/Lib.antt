@@ -1,5 +1,4 @@
-pub mod Lent
 pub mod Depths
 pub mod Copied
 pub mod Called
-pub mod TurnedDown
+pub mod Claims

@@ -1,22 +1,21 @@
-// The static library for C and Rust. Here are five functions over lent bytes, thin over the crates below; those on the running machine stand
-// in `arrays`. Where a size or a flag byte does not fit, a function gives 18 and writes nothing. In the contracts `given` says, byte for byte,
-// what is given and what the lent buffers hold then; `holds` says that the bytes are an image again, from which the next call reads the machine
-// that this one left.
+// The static library for C and Rust: functions over lent memory, thin over the crates below. Here are those on an image and on the depth
+// tables; those on the running machine stand in `arrays`, and those that load and save an image in `exchanged`. Where a size or a flag byte
+// does not fit, a function gives 18 and writes nothing. In the contracts `given` says, byte for byte, what is given and what the lent buffers
+// hold then; `holds` says that the bytes are an image again, from which the next call reads the machine that this one left; `kept` says that
+// a call that is turned down, with a number from 1 to 18, leaves the image as it was.
 pub mod arrays;
+pub mod exchanged;
 
 use copying::check_copy_refp;
+use exchange::read_machine;
+use exchange::write_machine;
 use image::is_flag;
 use image::is_image;
-use image::read::read_pm;
-use image::read::read_poc;
 use image::read::read_refp;
-use image::read::read_refps;
-use image::write::write_image;
 use line::Call;
 use line::Line;
 use line::read_call;
 use line::reply_of;
-use machine::Machine;
 use machine::fresh::new_machine;
 use running::BAD_LINE;
 use running::bad_line_reply;
@@ -27,17 +26,15 @@ use tbl::SliceDepth;
 use tbl::slice_depth;
 use tbl::slice_depth_p;
 ghost use mathlib.Core.Path.{_≡_};
-ghost use mathlib.Core.Bool.{true};
 ghost use lib.ListN.{length};
 ghost use Rattle.tbl.specs.DepthRows.{sliceDepth, sliceDepthP};
-ghost use Rattle.line.specs.Calls.{callFrom};
 ghost use Rattle.line.specs.Answers.{badLineReply};
-ghost use Rattle.image.specs.Image.{refpWidth, imageLength, isImage};
-ghost use Rattle.machine.specs.Step.{newMachine, step, stepLine};
-ghost use Rattle.picman_ffi.specs.Lent.{badLine, left, answered, machineOf, machineBytes, Holds};
-ghost use Rattle.picman_ffi.specs.Called.{renewed, replied, called};
+ghost use Rattle.image.specs.Image.{refpWidth, imageLength};
+ghost use Rattle.machine.specs.Step.{step};
+ghost use Rattle.exchange.specs.Lent.{badLine, left, machineOf, Holds};
 ghost use Rattle.running.specs.Wire.{answerLength, answerBytes};
-ghost use Rattle.picman_ffi.specs.Copied.{isEntry, copyInto, withLists, relisted, copied};
+ghost use Rattle.picman_ffi.specs.Called.{answered, replied, Renews, Answers};
+ghost use Rattle.picman_ffi.specs.Copied.{isEntry, copyInto, withLists, relisted, Copies};
 ghost use Rattle.picman_ffi.specs.Depths.{depthOrZero};
 
 const DONE: u8 = 0;
@@ -46,32 +43,10 @@ const IMAGE_LENGTH: usize = 6407;
 
 const ENTRY_LENGTH: usize = 90;
 
-fn read_machine(image: &[u8]) -> Machine
-    requires { ⌜ length (now image) ≡ imageLength ⌝ }
-    ensures { λ r. ⌜ r ≡ machineOf (now (image .entry)) ⌝ }
-{
-    let pm = read_pm(image);
-    let refp = read_refps(image);
-    let poc = read_poc(image);
-    Machine { pm, refp, poc }
-}
-
-fn write_machine(image: &mut [u8], machine: Machine)
-    requires { ⌜ length (now image) ≡ imageLength ⌝ }
-    ensures bytes { λ _. ⌜ now (image .exit) ≡ machineBytes machine ⌝ }
-    ensures holds { λ _. ⌜ Holds (now (image .exit)) machine ⌝ }
-{
-    let pm = machine.pm;
-    let refp = machine.refp;
-    let poc = machine.poc;
-    write_image(image, pm, refp, poc);
-}
-
 // Writes the new machine, whatever the image held: 0.
 #[no_mangle]
 pub extern "C" fn picman_new(image: &mut [u8]) -> u8
-    ensures given { λ r. ⌜ left r (now (image .exit)) ≡ renewed (now (image .entry)) ⌝ }
-    ensures holds { λ _. ⌜ (length (now (image .entry)) ≡ imageLength → Holds (now (image .exit)) newMachine) ⌝ }
+    ensures { λ r. ⌜ Renews r (now (image .entry)) (now (image .exit)) ⌝ }
 {
     if image.len() != IMAGE_LENGTH {
         return BAD_LINE;
@@ -107,8 +82,7 @@ fn answer_bad(answer: &mut [u8]) -> u8
 // One call: the bytes of a call line, check byte too, not in hex. Writes the answer and gives its status.
 #[no_mangle]
 pub extern "C" fn picman_call(image: &mut [u8], call: &[u8], answer: &mut [u8]) -> u8
-    ensures given { λ r. ⌜ answered r (now (image .exit)) (now (answer .exit)) ≡ called (now (image .entry)) (now (call .entry)) (now (answer .entry)) ⌝ }
-    ensures holds { λ _. ⌜ (isImage (now (image .entry)) ≡ true → length (now (answer .entry)) ≡ answerLength → Holds (now (image .exit)) (stepLine (machineOf (now (image .entry))) (callFrom (now (call .entry))) .machine)) ⌝ }
+    ensures { λ r. ⌜ Answers r (now (image .entry)) (now (call .entry)) (now (answer .entry)) (now (image .exit)) (now (answer .exit)) ⌝ }
 {
     if !is_image(image) {
         return BAD_LINE;
@@ -153,8 +127,7 @@ fn copy_entry(image: &mut [u8], cnt: u64, lidx: u64, entry: &[u8]) -> u8
 // Writes an entry at place `cnt` of one list: 0, or 13 or 14.
 #[no_mangle]
 pub extern "C" fn picman_copy_refp(image: &mut [u8], cnt: u64, lidx: u64, entry: &[u8]) -> u8
-    ensures given { λ r. ⌜ left r (now (image .exit)) ≡ copied (now (image .entry)) cnt lidx (now (entry .entry)) ⌝ }
-    ensures holds { λ _. ⌜ (isImage (now (image .entry)) ≡ true → isEntry (now (entry .entry)) ≡ true → Holds (now (image .exit)) (withLists (machineOf (now (image .entry))) (copyInto (now (image .entry)) cnt lidx (now (entry .entry)) .refp))) ⌝ }
+    ensures { λ r. ⌜ Copies r (now (image .entry)) cnt lidx (now (entry .entry)) (now (image .exit)) ⌝ }
 {
     if !is_image(image) {
         return BAD_LINE;

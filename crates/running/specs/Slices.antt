@@ -4,37 +4,17 @@ use Prim.Native.Nat.{ℕ, _+_, _*_, _^_}
 use mathlib.Core.Path.{_≡_}
 use mathlib.Core.Bool.{Bool, true, cond, _&&_}
 use mathlib.Core.List.{List}
-use lib.Dec.{eqb, leb}
+use lib.Dec.{leb}
 use lib.ListN.{length, replicate}
 use Rattle.def.specs.State.{slots}
 use Rattle.keys.specs.Keys.{rowsLength}
 use Rattle.line.specs.declared.{Call.Call, Line.Line, Reply.Reply}
 use Rattle.line.specs.Answers.{badLineReply}
 use Rattle.line.specs.Calls.{badFlags}
-use Rattle.registers.specs.Registers.{registersLength, restOf, pocOf}
-use Rattle.machine.specs.declared.{Machine.Machine, Scalars.Scalars}
+use Rattle.registers.specs.Registers.{registersLength}
 use Rattle.machine.specs.Step.{step, stepLine}
-use Rattle.machine.specs.Running.{machineIn}
+pub use Rattle.machine.specs.Lent.{Slices, slices, scalarsAt, machineAt, sized}
 use Rattle.machine.specs.Claims.{TurnedDown}
-
-pub record Slices : Type 0 where
-  pub keys : List ℕ
-  pub rows : List ℕ
-  pub registers : List ℕ
-
-abbrev pub slices : List ℕ → List ℕ → List ℕ → Slices
-slices keys rows registers = record { keys = keys; rows = rows; registers = registers }
-
--- The machine that they stand for, whatever their numbers.
-abbrev pub scalarsAt : List ℕ → Scalars
-scalarsAt registers = record { rest = restOf registers; poc = pocOf registers }
-
-abbrev pub machineAt : Slices → Machine
-machineAt s = machineIn (s .keys) (s .rows) (scalarsAt (s .registers))
-
--- Slices of the right sizes: 27, 1,533 and 13.
-abbrev pub sized : Slices → Bool
-sized s = (eqb (length (s .keys)) slots && eqb (length (s .rows)) rowsLength) && eqb (length (s .registers)) registersLength
 
 -- The reply to a line. A wrong size is answered as a bad line is.
 unfoldable pub replyTo : Slices → Line → Reply

@@ -26,7 +26,7 @@ const NO_BUFFER: u8 = 0xff;
 
 const HIGHEST_FLAGS: u8 = 15;
 
-fn is_sized(keys: &[u64], rows: &[u32], registers: &[u32]) -> bool
+pub fn is_sized(keys: &[u64], rows: &[u32], registers: &[u32]) -> bool
     ensures { λ r. ⌜ r ≡ sized (slices (now (keys .entry)) (now (rows .entry)) (now (registers .entry))) ⌝ }
 {
     (keys.len() == SLOTS) & (rows.len() == ROWS) & (registers.len() == REGISTERS)

@@ -4,7 +4,7 @@ use mathlib.Core.Path.{ap, subst, _∙_}
 use Rattle.machine.specs.declared.Machine.{Machine}
 use Rattle.machine.specs.declared.Stepped.{Stepped}
 use Rattle.machine.specs.Step.{step}
-use Rattle.picman_ffi.specs.Lent.{Holds}
+use Rattle.exchange.specs.Lent.{Holds}
 use borrow.Author.Needs.{needs}
 use Rattle.picman_ffi.proofs.answer_good.Statement.{statement}
 use Rattle.picman_ffi.proofs.answer_good.Tie as tie

@@ -4,17 +4,19 @@ use mathlib.Core.Path.{_≡_, refl, sym, subst, _∙_}
 use mathlib.Core.Bool.{true, true≢false}
 use mathlib.Core.List.{List}
 use Prim.Native.Nat.{ℕ}
+use native.Mathlib.Omega.{arith}
 use lib.ListN.{length}
 use borrow.Author.Tests.{not-true, not-false, eq-eqb, ne-eqb}
 use Rattle.line.specs.declared.Line.{Line}
 use Rattle.line.specs.Calls.{callFrom}
-use Rattle.image.specs.Image.{isImage}
+use Rattle.image.specs.Image.{Bytes, isImage}
 use Rattle.machine.specs.declared.Machine.{Machine}
 use Rattle.machine.specs.Step.{stepLine}
-use Rattle.picman_ffi.specs.Lent.{Holds}
 use Rattle.running.specs.Wire.{answerLength}
-use Rattle.picman_ffi.specs.Called.{answerTo, called}
+use Rattle.exchange.specs.Lent.{machineOf, Holds}
+use Rattle.picman_ffi.specs.Called.{answered, answerTo, called, Answers}
 use Rattle.image.specs.BytesKept.{image-long}
+use Rattle.picman_ffi.proofs.TurnedDown.{answered-kept, call-kept}
 use borrow.Author.Needs.{needs}
 use Rattle.picman_ffi.proofs.picman_call.Statement.{statement}
 use Rattle.picman_ffi.proofs.picman_call.Tie as tie
@@ -29,6 +31,15 @@ called-line image call answer l e f g = rw (e, eq-eqb (length answer) answerLeng
 holds-line : (m : Machine) (call : List ℕ) {bs : List ℕ} {l : Line} → callFrom call ≡ l → Holds bs (stepLine m l .machine) → Holds bs (stepLine m (callFrom call) .machine)
 holds-line m call {bs} e h = subst (λ (k : Line). Holds bs (stepLine m k .machine)) (sym e) h
 
+answers : (r : ℕ) (image call answer image′ answer′ : List ℕ) → Bytes image → answered r image′ answer′ ≡ called image call answer
+    → (isImage image ≡ true → length answer ≡ answerLength → Holds image′ (stepLine (machineOf image) (callFrom call) .machine))
+    → Answers r image call answer image′ answer′
+answers r image call answer image′ answer′ bytes e h = record { given = e; holds = h; kept = answered-kept e (call-kept image bytes call answer) }
+
+-- the image that came is made of bytes
+bytes : (c : tie.After-slice-known) → Bytes (c .before .args .image .now)
+bytes c = record { each = λ i. omega (arith, c .slice-known .given i) }
+
 an-image : (c : tie.Else1) → isImage (c .before .before .before .before .before .before .args .image .now) ≡ true
 an-image c = sym (c .before .is-image .ensures) ∙ not-false _ (c .if1 .left)
 
@@ -42,7 +53,7 @@ returns : tie.Need-returns
 unfolding called
 returns c =
     let e = sym (c .before .is-image .ensures) ∙ not-true _ (c .if1 .taken) in
-    (rw e, λ f _. absurd (true≢false (sym f ∙ e)))
+    answers _ _ _ _ _ _ (bytes (c .before .before .before .before .before)) (rw e) (λ f _. absurd (true≢false (sym f ∙ e)))
 
 same-length-2 : tie.Need-same-length-2
 same-length-2 c = search needs
@@ -50,7 +61,8 @@ same-length-2 c = search needs
 returns-2 : tie.Need-returns-2
 unfolding called
 returns-2 c =
-    (rw (an-image (c .before), ne-eqb (length (c .before .before .before .before .before .before .before .args .answer .now)) answerLength (c .if2 .taken)), λ _ f. absurd (c .if2 .taken f))
+    let known = c .before .before .before .before .before .before in
+    answers _ _ _ _ _ _ (bytes known) (rw (an-image (c .before), ne-eqb (length (known .before .args .answer .now)) answerLength (c .if2 .taken))) (λ _ f. absurd (c .if2 .taken f))
 
 read-call-requires : tie.Need-read-call-requires
 read-call-requires c κs = search needs
@@ -81,10 +93,10 @@ returns-3 c =
     let answered = c .before .before .before .before in
     let told = answered .before .before .before .before in
     let tested = told .before .before .before in
-    let e = sym (told .before .before .read-call .ensures) ∙ told .line .given .1 in (
-      answered .answer-good .ensures .0 ∙ sym (called-line _ _ _ _ (an-image (tested .before)) (tested .if2 .left) e),
-      λ _ _. holds-line _ _ e (answered .answer-good .ensures .1),
-    )
+    let e = sym (told .before .before .read-call .ensures) ∙ told .line .given .1 in
+    answers _ _ _ _ _ _ (bytes (tested .before .before .before .before .before .before))
+    (answered .answer-good .ensures .0 ∙ sym (called-line _ _ _ _ (an-image (tested .before)) (tested .if2 .left) e))
+    (λ _ _. holds-line _ _ e (answered .answer-good .ensures .1))
 
 same-length-5 : tie.Need-same-length-5
 same-length-5 c = search needs
@@ -98,10 +110,10 @@ returns-4 c =
     let answered = c .before .before in
     let told = answered .before .before in
     let tested = told .before .before .before in
-    let e = sym (told .before .before .read-call .ensures) ∙ told .enum-told .given .1 in (
-      rw (answered .answer-bad .ensures .0, answered .answer-bad .ensures .1) (sym (called-line _ _ _ _ (an-image (tested .before)) (tested .if2 .left) e)),
-      λ f _. holds-line _ _ e (record { image = f; machine = refl }),
-    )
+    let e = sym (told .before .before .read-call .ensures) ∙ told .enum-told .given .1 in
+    answers _ _ _ _ _ _ (bytes (tested .before .before .before .before .before .before))
+    (rw (answered .answer-bad .ensures .0, answered .answer-bad .ensures .1) (sym (called-line _ _ _ _ (an-image (tested .before)) (tested .if2 .left) e)))
+    (λ f _. holds-line _ _ e (record { image = f; machine = refl }))
 
 pub picman-call-spec : {M : Type 1} → statement M
 picman-call-spec =

@@ -1,18 +1,25 @@
 -- `picman_ffi::picman_new` meets its contract: the length is tested, and the new machine written.
 -- Assumes nothing.
-use mathlib.Core.Path.{subst}
+use mathlib.Core.Path.{_≡_, subst}
+use mathlib.Core.List.{List}
+use Prim.Native.Nat.{ℕ}
 use lib.ListN.{length}
 use borrow.Author.Tests.{eq-eqb, ne-eqb}
 use Rattle.image.specs.Image.{imageLength}
-use Rattle.picman_ffi.specs.Called.{renewed}
-use Rattle.picman_ffi.specs.Lent.{Holds}
+use Rattle.picman_ffi.specs.Called.{renewed, Renews}
+use Rattle.exchange.specs.Lent.{left, Holds}
+use Rattle.machine.specs.Step.{newMachine}
+use Rattle.picman_ffi.proofs.TurnedDown.{left-kept, new-kept}
 use borrow.Author.Needs.{needs}
 use Rattle.picman_ffi.proofs.picman_new.Statement.{statement}
 use Rattle.picman_ffi.proofs.picman_new.Tie as tie
 
+renews : (r : ℕ) (image image′ : List ℕ) → left r image′ ≡ renewed image → (length image ≡ imageLength → Holds image′ newMachine) → Renews r image image′
+renews r image image′ e h = record { given = e; holds = h; kept = left-kept e (new-kept image) }
+
 returns : tie.Need-returns
 unfolding renewed
-returns c = (rw (ne-eqb (length (c .before .before .args .image .now)) imageLength (c .if1 .taken)), λ e. absurd (c .if1 .taken e))
+returns c = renews _ _ _ (rw (ne-eqb (length (c .before .before .args .image .now)) imageLength (c .if1 .taken))) (λ e. absurd (c .if1 .taken e))
 
 new-machine-requires : tie.Need-new-machine-requires
 new-machine-requires c κs = search needs
@@ -28,10 +35,10 @@ unfolding renewed
 returns-2 c =
     let written = c .before .before in
     let made = written .before .before in
-    let long = made .before in (
-      rw (eq-eqb (length (long .before .before .args .image .now)) imageLength (long .if1 .left), written .write-machine .ensures .0, made .new-machine .ensures),
-      λ _. subst (Holds (written .write-machine .last .0)) (made .new-machine .ensures) (written .write-machine .ensures .1),
-    )
+    let long = made .before in
+    renews _ _ _
+    (rw (eq-eqb (length (long .before .before .args .image .now)) imageLength (long .if1 .left), written .write-machine .ensures .0, made .new-machine .ensures))
+    (λ _. subst (Holds (written .write-machine .last .0)) (made .new-machine .ensures) (written .write-machine .ensures .1))
 
 pub picman-new-spec : {M : Type 1} → statement M
 picman-new-spec =

@@ -1,117 +1,99 @@
--- `stepping::step` meets its contract, call by call. Assumes nothing.
-use mathlib.Core.Path.{sym, ap, _∙_}
-use Rattle.def.specs.declared.PutCall.{PutCall}
-use Rattle.def.specs.declared.RefpCall.{RefpCall}
-use Rattle.refp.specs.Lists.{lists}
-use Rattle.picman.specs.Put.{put}
-use Rattle.machine.specs.Step.{onState, onLists, step}
+-- `stepping::step` meets its contract: by what became of the call. Assumes nothing.
+use mathlib.Core.Path.{sym, _∙_}
+use Rattle.stepping.proofs.Stepping.{told-down, told-accepted, turned-down, derived, runs, accepted-is}
 use borrow.Author.Needs.{needs}
 use Rattle.stepping.proofs.step.Statement.{statement}
 use Rattle.stepping.proofs.step.Tie as tie
 
-enum-known-call : tie.Need-enum-known-call
-enum-known-call c = search needs
+slice-aggregate-take-machine : tie.Need-slice-aggregate-take-machine
+slice-aggregate-take-machine c = search needs
 
-init-step-requires : tie.Need-init-step-requires
-init-step-requires c κs = search needs
+slice-aggregate-take-machine-2 : tie.Need-slice-aggregate-take-machine-2
+slice-aggregate-take-machine-2 c = search needs
 
-enum-told : tie.Need-enum-told
-enum-told c = search needs
+take-machine-requires : tie.Need-take-machine-requires
+take-machine-requires c κs = search needs
 
-get-step-requires : tie.Need-get-step-requires
-get-step-requires c κs = search needs
+slice-aggregate-checked-call : tie.Need-slice-aggregate-checked-call
+slice-aggregate-checked-call c = search needs
 
-enum-known-call-2 : tie.Need-enum-known-call-2
-enum-known-call-2 c = search needs
+slice-aggregate-checked-call-2 : tie.Need-slice-aggregate-checked-call-2
+slice-aggregate-checked-call-2 c = search needs
 
-put-call-of-requires : tie.Need-put-call-of-requires
-put-call-of-requires c κs = search needs
+checked-call-requires : tie.Need-checked-call-requires
+checked-call-requires c κs = search needs
 
-put-step-requires : tie.Need-put-step-requires
-put-step-requires c κs = search needs
-
-enum-told-2 : tie.Need-enum-told-2
-enum-told-2 c = search needs
-
-out-step-requires : tie.Need-out-step-requires
-out-step-requires c κs = search needs
-
-enum-known-call-3 : tie.Need-enum-known-call-3
-enum-known-call-3 c = search needs
-
-refp-call-of-requires : tie.Need-refp-call-of-requires
-refp-call-of-requires c κs = search needs
-
-refp-step-requires : tie.Need-refp-step-requires
-refp-step-requires c κs = search needs
-
-enum-known-call-4 : tie.Need-enum-known-call-4
-enum-known-call-4 c = search needs
-
-poc-step-requires : tie.Need-poc-step-requires
-poc-step-requires c κs = search needs
+is-turned-down-requires : tie.Need-is-turned-down-requires
+is-turned-down-requires c κs = search needs
 
 returns : tie.Need-returns
-unfolding step
 returns c =
-    let m = c .before .before .before .before .args .m in
-    c .init-step .ensures ∙ sym (ap (step m) (c .before .before .call .given .1))
+    let told = c .before in
+    let at-call = told .before .before .before .before in
+    let at-take = at-call .before .before .before .before .before in
+    let s = at-take .before .before .before in
+    turned-down (at-take .take-machine .ensures) (s .args .call) (at-call .checked-call .ensures) (told-down _ (sym (told .is-turned-down .ensures) ∙ c .if1 .taken))
+
+reads-state-requires : tie.Need-reads-state-requires
+reads-state-requires c κs = search needs
+
+slice-aggregate-put-machine : tie.Need-slice-aggregate-put-machine
+slice-aggregate-put-machine c = search needs
+
+slice-aggregate-put-machine-2 : tie.Need-slice-aggregate-put-machine-2
+slice-aggregate-put-machine-2 c = search needs
+
+put-machine-requires : tie.Need-put-machine-requires
+put-machine-requires c κs =
+    let at-read = c .before .before in
+    let reads = at-read .before in
+    let at-else = reads .before .before in
+    let told = at-else .before in
+    let at-call = told .before .before .before .before in
+    let at-take = at-call .before .before .before .before .before in
+    let s = at-take .before .before .before in
+    runs (at-take .take-machine .ensures) (s .args .call) (at-call .checked-call .ensures) (sym (reads .reads-state .ensures) ∙ at-read .if2 .taken)
+    (told-accepted _ (sym (told .is-turned-down .ensures) ∙ at-else .if1 .left))
 
 returns-2 : tie.Need-returns-2
-unfolding step
 returns-2 c =
-    let m = c .before .before .before .args .m in
-    c .get-step .ensures ∙ sym (ap (step m) (c .before .enum-told .given .1))
+    let at-read = c .before .before .before in
+    let reads = at-read .before in
+    let at-else = reads .before .before in
+    let told = at-else .before in
+    let at-call = told .before .before .before .before in
+    let at-take = at-call .before .before .before .before .before in
+    let s = at-take .before .before .before in
+    rw (c .put-machine .ensures)
+    (accepted-is (at-take .take-machine .ensures) (s .args .call) (at-call .checked-call .ensures) (sym (reads .reads-state .ensures) ∙ at-read .if2 .taken)
+    (told-accepted _ (sym (told .is-turned-down .ensures) ∙ at-else .if1 .left)))
 
 returns-3 : tie.Need-returns-3
-unfolding step
 returns-3 c =
-    let m = c .before .before .before .before .before .args .m in
-    c .put-step .ensures
-    ∙ ap (λ (k : PutCall). onState 3 m (put (m .pm) (m .refp) k)) (c .before .put-call-of .ensures)
-    ∙ sym (ap (step m) (c .before .before .before .call2 .given .1))
-
-returns-4 : tie.Need-returns-4
-unfolding step
-returns-4 c =
-    let m = c .before .before .before .args .m in
-    c .out-step .ensures ∙ sym (ap (step m) (c .before .enum-told2 .given .1))
-
-returns-5 : tie.Need-returns-5
-unfolding step
-returns-5 c =
-    let m = c .before .before .before .before .before .args .m in
-    c .refp-step .ensures
-    ∙ ap (λ (k : RefpCall). onLists 5 m (lists (m .pm) (m .refp) k)) (c .before .refp-call-of .ensures)
-    ∙ sym (ap (step m) (c .before .before .before .call3 .given .1))
-
-returns-6 : tie.Need-returns-6
-unfolding step
-returns-6 c =
-    let m = c .before .before .before .before .args .m in
-    c .poc-step .ensures ∙ sym (ap (step m) (c .before .before .call4 .given .1))
+    let at-rest = c .before .before .before in
+    let reads = at-rest .before in
+    let at-else = reads .before .before in
+    let told = at-else .before in
+    let at-call = told .before .before .before .before in
+    let at-take = at-call .before .before .before .before .before in
+    let s = at-take .before .before .before in
+    derived (at-take .take-machine .ensures) (s .args .call) (at-call .checked-call .ensures) (sym (reads .reads-state .ensures) ∙ at-rest .if2 .left)
 
 pub step-spec : {M : Type 1} → statement M
 step-spec =
     tie.close
     (tie.spec
-    enum-known-call
-    init-step-requires
-    enum-told
-    get-step-requires
-    enum-known-call-2
-    put-call-of-requires
-    put-step-requires
-    enum-told-2
-    out-step-requires
-    enum-known-call-3
-    refp-call-of-requires
-    refp-step-requires
-    enum-known-call-4
-    poc-step-requires
+    slice-aggregate-take-machine
+    slice-aggregate-take-machine-2
+    take-machine-requires
+    slice-aggregate-checked-call
+    slice-aggregate-checked-call-2
+    checked-call-requires
+    is-turned-down-requires
     returns
+    reads-state-requires
+    slice-aggregate-put-machine
+    slice-aggregate-put-machine-2
+    put-machine-requires
     returns-2
-    returns-3
-    returns-4
-    returns-5
-    returns-6)
+    returns-3)
