@@ -1,56 +1,241 @@
-/* The proved picture manager: functions over memory that the caller lends.
+/* The proved picture manager for C and C++, on memory that the caller lends.
  *
- * An image holds a whole machine, big-endian: 27 slots and then the lease, 93 bytes each (present, buffer number,
- * is_ref, need_for_out, temporal_id, poc 4, list_poc 21 x 4); max_pb_size, max_num_ref_pics, cur_pb_size,
- * cur_num_ref_pics, num_refp[0], num_refp[1], poc_next_output 4, poc_increase; 42 list entries, forward first, 90 bytes
- * each (present, buffer number, poc 4, list_poc 21 x 4); poc_val 4, prev_poc_val 4, prev_doc_offset 4.
+ *   1. The running machine: a struct of 6,400 bytes on which every call works in place. Use this to keep pictures.
+ *   2. The image: a machine as 6,407 bytes, big-endian, the form for exchange and comparison.
+ *   3. The depth tables.
  *
- * Where a length is not the one below, or a flag byte of an image or an entry is neither 0 nor 1, a function gives
- * PICMAN_BAD and writes nothing. A call that is turned down, with a number from 1 to 18, leaves the image as it was.
- * No pointer may be null, and lent buffers may not overlap; none is kept. */
+ * The library allocates nothing, calls nothing, keeps no pointer and has no state of its own. No pointer may be null, and
+ * what a call writes may overlap nothing else that it is given. Two threads may not use one machine at once. */
 #ifndef PICMAN_H
 #define PICMAN_H
 
 #include <stddef.h>
 #include <stdint.h>
 
-#define PICMAN_IMAGE 6407
-#define PICMAN_ANSWER 8
-#define PICMAN_ENTRY 90
-#define PICMAN_BAD 18
-#define PICMAN_STATE_NOT_WHOLE 7
-#define PICMAN_KEYS 27
-#define PICMAN_ROW_NUMBERS 1533
-#define PICMAN_REGISTERS 13
-
 #ifdef __cplusplus
 extern "C" {
 #endif
 
-/* Writes the new machine, whatever the image held: 0. */
-uint8_t picman_new(uint8_t *image, size_t len);
+/* What a call comes to. Under a refusal, 1 to 18, nothing has changed. */
+enum picman_status {
+    PICMAN_DONE = 0,
+    PICMAN_SIZE_TOO_BIG = 1,
+    PICMAN_STORE_FULL = 2,
+    PICMAN_PICTURE_LEASED = 3,
+    PICMAN_NO_LEASE = 4,
+    PICMAN_SLOT_TAKEN = 5,
+    PICMAN_NUMBER_TOO_HIGH = 6,
+    PICMAN_STATE_NOT_WHOLE = 7,
+    PICMAN_TOO_MANY_REFERENCES = 8,
+    PICMAN_NO_REFERENCES = 9,
+    PICMAN_OLD_REFERENCE = 10,
+    PICMAN_FORWARD_LIST_EMPTY = 11,
+    PICMAN_BACKWARD_LIST_EMPTY = 12,
+    PICMAN_SAME_NUMBER = 13,
+    PICMAN_NO_SUCH_PLACE = 14,
+    PICMAN_BAD_LAYER = 15,
+    PICMAN_BAD_RECORD = 16,
+    PICMAN_BAD_LENGTH = 17,
+    PICMAN_BAD = 18,      /* a size, a flag byte or a call that does not fit */
+    PICMAN_NOT_YET = 0x40, /* out: a picture is wanted and none is due */
+    PICMAN_NO_MORE = 0x41  /* out: no picture is wanted */
+};
 
-/* One call: the bytes of a call line, check byte too, not in hex. Writes the 8 bytes of the answer and gives its
- * status; the answer to a bad call is that to a bad line. */
-uint8_t picman_call(uint8_t *image, size_t len, const uint8_t *call, size_t call_len, uint8_t *answer,
-                    size_t answer_len);
+#define PICMAN_SLOTS 27
+#define PICMAN_PLACES 21
+#define PICMAN_ROWS 73
+#define PICMAN_REGISTERS 13
+#define PICMAN_IMAGE 6407
+#define PICMAN_ANSWER 8
+#define PICMAN_ENTRY 90
 
-/* Writes an entry at place cnt of list lidx: 0; 13 where its number stands among the first cnt entries there, 14 where
- * there is no such place. */
-uint8_t picman_copy_refp(uint8_t *image, size_t len, uint64_t cnt, uint64_t lidx, const uint8_t *entry,
-                         size_t entry_len);
+/* ---- 1. The running machine ------------------------------------------------------------------------------------------ */
 
-/* The running machine is three arrays, of 27, 1,533 and 13 numbers. Load writes the machine of an image into them, save
- * the image of their machine: 0. PICMAN_BAD where a length is another, or a flag byte of the image that is loaded is
- * neither 0 nor 1; PICMAN_STATE_NOT_WHOLE where the state is not whole. Nothing is written then. Load leaves the rows of
- * buffers that no slot and no lease holds as they were. */
+/* All zero is the new machine. Any bits may stand in it: every call ends, and where the state is not whole it gives
+ * PICMAN_STATE_NOT_WHOLE and writes nothing. A state is whole when
+ *   - an empty slot is 0, a full one holds a number up to 2,147,483,647 and a buffer up to 26 that no other one and not the
+ *     lease holds; the lease likewise;
+ *   - max_pb_size is at most 27, max_num_ref_pics and both list counts at most 21;
+ *   - cur_pb_size counts the full slots and cur_num_ref_pics the marked ones.
+ * Calls keep it so. A program may read every field; it has no need to write one. (The last seven registers are bytes: a
+ * number over 255 is read as 255, and a call that is not turned down with 7 or 18 may write it so.) */
+typedef struct picman_machine {
+    /* Slot i: number << 16 | layer << 8 | buffer << 3 | wanted << 2 | marked << 1 | 1, and 0 where it is empty. */
+    uint64_t keys[PICMAN_SLOTS];
+    /* Rows 0 to 26: the list numbers of the picture in buffer 0 to 26. 27 and 28: the 21 forward and the 21 backward
+     * entries, each 2 * buffer + 1, or 0 where there is none. 29 and 30: the entries' numbers. 31 to 51 and 52 to 72: the
+     * list numbers of each forward and of each backward entry. */
+    uint32_t rows[PICMAN_ROWS][PICMAN_PLACES];
+    uint32_t registers[PICMAN_REGISTERS];
+} picman_machine;
+
+/* The registers by place. The lease is a key as in a slot, 0 where there is none, in two halves. */
+enum picman_register {
+    PICMAN_LEASE_LOW,
+    PICMAN_LEASE_HIGH,
+    PICMAN_POC_NEXT_OUTPUT,
+    PICMAN_POC_VAL,         /* these three are the record of derivations; */
+    PICMAN_PREV_POC_VAL,
+    PICMAN_PREV_DOC_OFFSET, /* the first and the last in two's complement */
+    PICMAN_MAX_PB_SIZE,
+    PICMAN_MAX_NUM_REF_PICS,
+    PICMAN_CUR_PB_SIZE,
+    PICMAN_CUR_NUM_REF_PICS,
+    PICMAN_NUM_REFP_0,
+    PICMAN_NUM_REFP_1,
+    PICMAN_POC_INCREASE
+};
+
+/* An answer: the status in bits 0 to 7, the buffer number (0xff where there is none) in bits 8 to 15, the value in bits 32
+ * to 63. The value is the picture number of a get, a put and an out, forward count * 256 + backward count of a list call,
+ * the signed number of a derivation, and else 0. */
+typedef uint64_t picman_answer;
+
+#define PICMAN_STATUS(answer) ((uint8_t)(answer))
+#define PICMAN_BUFFER(answer) ((uint8_t)((answer) >> 8))
+#define PICMAN_VALUE(answer) ((uint32_t)((answer) >> 32))
+#define PICMAN_FORWARD(answer) ((uint8_t)((answer) >> 40))
+#define PICMAN_BACKWARD(answer) ((uint8_t)((answer) >> 32))
+#define PICMAN_NUMBER(answer) ((int32_t)PICMAN_VALUE(answer))
+
+/* A put's flags. */
+#define PICMAN_IDR 1
+#define PICMAN_WANTED 2
+#define PICMAN_REFERENCE 4
+#define PICMAN_NO_PICTURE 8
+
+/* Slice types; any other number is an unknown one. */
+#define PICMAN_SLICE_I 1
+#define PICMAN_SLICE_P 2
+#define PICMAN_SLICE_B 3
+
+/* What the library defines: each array is a pointer and its length, 27, 1,533 and 13 (21 for list_poc, 8 for an answer's
+ * bytes, 6,407 for an image). Where a length is another they give 18 (as an answer: status 18, no buffer, value 0) and write
+ * nothing at all, an answer's bytes and an image neither. The functions below this block pass the lengths. */
+uint8_t picman_machine_new(uint64_t *keys, size_t keys_len, uint32_t *rows, size_t rows_len, uint32_t *registers,
+                           size_t registers_len);
+picman_answer picman_machine_init(uint64_t *keys, size_t keys_len, uint32_t *rows, size_t rows_len, uint32_t *registers,
+                                  size_t registers_len, uint8_t max_pb_size, uint8_t max_num_ref_pics);
+picman_answer picman_machine_get(uint64_t *keys, size_t keys_len, uint32_t *rows, size_t rows_len, uint32_t *registers,
+                                 size_t registers_len);
+picman_answer picman_machine_put(uint64_t *keys, size_t keys_len, uint32_t *rows, size_t rows_len, uint32_t *registers,
+                                 size_t registers_len, uint8_t flags, uint32_t poc, uint8_t temporal_id,
+                                 uint32_t ref_pic_gap_length);
+picman_answer picman_machine_out(uint64_t *keys, size_t keys_len, uint32_t *rows, size_t rows_len, uint32_t *registers,
+                                 size_t registers_len);
+picman_answer picman_machine_lists(uint64_t *keys, size_t keys_len, uint32_t *rows, size_t rows_len, uint32_t *registers,
+                                   size_t registers_len, uint8_t slice_type, uint32_t poc, uint8_t layer_id,
+                                   uint32_t last_intra, uint8_t max_num_ref_pics);
+picman_answer picman_machine_derive(uint64_t *keys, size_t keys_len, uint32_t *rows, size_t rows_len, uint32_t *registers,
+                                    size_t registers_len, uint8_t log2_sub_gop_length, uint8_t tid);
+uint8_t picman_machine_copy(uint32_t *rows, size_t rows_len, uint64_t cnt, uint64_t lidx, uint8_t present, uint8_t buf,
+                            uint32_t poc, const uint32_t *list_poc, size_t list_poc_len);
+uint8_t picman_machine_call(uint64_t *keys, size_t keys_len, uint32_t *rows, size_t rows_len, uint32_t *registers,
+                            size_t registers_len, const uint8_t *call, size_t call_len, uint8_t *answer,
+                            size_t answer_len);
 uint8_t picman_machine_load(uint64_t *keys, size_t keys_len, uint32_t *rows, size_t rows_len, uint32_t *registers,
                             size_t registers_len, const uint8_t *image, size_t image_len);
 uint8_t picman_machine_save(const uint64_t *keys, size_t keys_len, const uint32_t *rows, size_t rows_len,
                             const uint32_t *registers, size_t registers_len, uint8_t *image, size_t image_len);
 
-/* The depth at a position of a group with a hierarchy of B slices, and of a group of P slices; 0 where there is
- * none. */
+#define PICMAN_PARTS(m) \
+    (m)->keys, PICMAN_SLOTS, &(m)->rows[0][0], PICMAN_ROWS *PICMAN_PLACES, (m)->registers, PICMAN_REGISTERS
+
+/* The new machine, whatever stood there: 0. It is all zero, so a machine may also begin as `picman_machine m = {0};`. */
+static inline uint8_t picman_reset(picman_machine *m) { return picman_machine_new(PICMAN_PARTS(m)); }
+
+/* Sets the limits of the store and its references, and gives up the lease; 1 where they are over 27 and 21. */
+static inline picman_answer picman_init(picman_machine *m, uint8_t max_pb_size, uint8_t max_num_ref_pics) {
+    return picman_machine_init(PICMAN_PARTS(m), max_pb_size, max_num_ref_pics);
+}
+
+/* Leases an empty picture: its buffer, and the number that it had. */
+static inline picman_answer picman_get(picman_machine *m) { return picman_machine_get(PICMAN_PARTS(m)); }
+
+/* Marks, and puts the leased picture into the store (without PICMAN_NO_PICTURE): its buffer and number. Flags over 15 are
+ * turned down with 18, as a call line with them is: nothing is written. */
+static inline picman_answer picman_put(picman_machine *m, uint8_t flags, uint32_t poc, uint8_t temporal_id,
+                                       uint32_t ref_pic_gap_length) {
+    return picman_machine_put(PICMAN_PARTS(m), flags, poc, temporal_id, ref_pic_gap_length);
+}
+
+/* The next picture for output: its buffer and number, or PICMAN_NOT_YET, or PICMAN_NO_MORE. */
+static inline picman_answer picman_out(picman_machine *m) { return picman_machine_out(PICMAN_PARTS(m)); }
+
+/* Builds the reference lists of a slice: both counts. */
+static inline picman_answer picman_lists(picman_machine *m, uint8_t slice_type, uint32_t poc, uint8_t layer_id,
+                                         int32_t last_intra, uint8_t max_num_ref_pics) {
+    return picman_machine_lists(PICMAN_PARTS(m), slice_type, poc, layer_id, (uint32_t)last_intra, max_num_ref_pics);
+}
+
+/* Derives the number of the next picture of a layer in a group of 2^log2_sub_gop_length. It has to do with the record alone,
+ * so it also works where the state is not whole. */
+static inline picman_answer picman_derive(picman_machine *m, uint8_t log2_sub_gop_length, uint8_t tid) {
+    return picman_machine_derive(PICMAN_PARTS(m), log2_sub_gop_length, tid);
+}
+
+/* Writes an entry at place cnt of list lidx (0 forward, 1 backward): 0; 13 where its number stands among the first cnt
+ * entries there, 14 where there is no such place, 18 where `present` is neither 0 nor 1. Only 0 has written. It has to do
+ * with the lists alone, so it also works where the state is not whole. */
+static inline uint8_t picman_copy(picman_machine *m, uint64_t cnt, uint64_t lidx, uint8_t present, uint8_t buf, uint32_t poc,
+                                  const uint32_t list_poc[PICMAN_PLACES]) {
+    return picman_machine_copy(&m->rows[0][0], PICMAN_ROWS * PICMAN_PLACES, cnt, lidx, present, buf, poc, list_poc,
+                               PICMAN_PLACES);
+}
+
+/* One call from the bytes of a call line, check byte too, not in hex. Writes the 8 bytes of the answer line, always, and
+ * gives its status; bytes that are no call are answered as a bad line is, 18, and the machine stays as it was. */
+static inline uint8_t picman_call_bytes(picman_machine *m, const uint8_t *call, size_t call_len,
+                                        uint8_t answer[PICMAN_ANSWER]) {
+    return picman_machine_call(PICMAN_PARTS(m), call, call_len, answer, PICMAN_ANSWER);
+}
+
+/* The machine of an image: 0. Where a flag byte of the image is neither 0 nor 1 it gives 18, and where the image's state is
+ * not whole 7; the machine then stays as it was. Rows of buffers that no picture of the image is in keep what they held. */
+static inline uint8_t picman_load(picman_machine *m, const uint8_t image[PICMAN_IMAGE]) {
+    return picman_machine_load(PICMAN_PARTS(m), image, PICMAN_IMAGE);
+}
+
+/* The image of a machine: 0. Where the state is not whole it gives 7, and the image stays as it was. */
+static inline uint8_t picman_save(const picman_machine *m, uint8_t image[PICMAN_IMAGE]) {
+    return picman_machine_save(PICMAN_PARTS(m), image, PICMAN_IMAGE);
+}
+
+/* ---- 2. The image ---------------------------------------------------------------------------------------------------- */
+
+/* An image holds a machine, big-endian: 27 slots and then the lease, 93 bytes each (present, buffer number, is_ref,
+ * need_for_out, temporal_id, poc 4, list_poc 21 x 4); max_pb_size, max_num_ref_pics, cur_pb_size, cur_num_ref_pics,
+ * num_refp[0], num_refp[1], poc_next_output 4, poc_increase; 42 list entries, forward first, 90 bytes each (present, buffer
+ * number, poc 4, list_poc 21 x 4); poc_val 4, prev_poc_val 4, prev_doc_offset 4. Unlike the running machine it can also say
+ * states that are not whole.
+ *
+ * picman_new, picman_call and picman_copy_refp are what the library defines; picman_image_* pass the lengths. Calls on an
+ * image convert it both ways: they are for comparison, not for speed. */
+uint8_t picman_new(uint8_t *image, size_t len);
+uint8_t picman_call(uint8_t *image, size_t len, const uint8_t *call, size_t call_len, uint8_t *answer, size_t answer_len);
+uint8_t picman_copy_refp(uint8_t *image, size_t len, uint64_t cnt, uint64_t lidx, const uint8_t *entry, size_t entry_len);
+
+/* Writes the new machine, whatever the image held: 0. A wrong length gives 18 and nothing is written. */
+static inline uint8_t picman_image_new(uint8_t image[PICMAN_IMAGE]) { return picman_new(image, PICMAN_IMAGE); }
+
+/* One call, as picman_call_bytes. There are two ways to 18: bytes that are no call are answered, with status 18 in the
+ * answer and the image as it was; where a flag byte of the image is neither 0 nor 1 (or a length is wrong, in picman_call)
+ * nothing is written, the answer neither. So set the answer before the call, or test the image once. */
+static inline uint8_t picman_image_call(uint8_t image[PICMAN_IMAGE], const uint8_t *call, size_t call_len,
+                                        uint8_t answer[PICMAN_ANSWER]) {
+    return picman_call(image, PICMAN_IMAGE, call, call_len, answer, PICMAN_ANSWER);
+}
+
+/* As picman_copy, with the 90 bytes of an entry. 18 where a flag byte of the image or the entry is neither 0 nor 1 (or a
+ * length is wrong, in picman_copy_refp): nothing is written. */
+static inline uint8_t picman_image_copy_refp(uint8_t image[PICMAN_IMAGE], uint64_t cnt, uint64_t lidx,
+                                             const uint8_t entry[PICMAN_ENTRY]) {
+    return picman_copy_refp(image, PICMAN_IMAGE, cnt, lidx, entry, PICMAN_ENTRY);
+}
+
+/* ---- 3. The depth tables --------------------------------------------------------------------------------------------- */
+
+/* The depth at a position of a group with a hierarchy of B slices, and of a group of P slices; 0 where there is none. */
 uint8_t picman_slice_depth(uint64_t length, uint64_t position);
 uint8_t picman_slice_depth_p(uint64_t length, uint64_t position);
 

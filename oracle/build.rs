@@ -116,7 +116,7 @@ fn without_foreign_derives(text: &str) -> String {
     out
 }
 
-/// `linked` tells the code that the five C functions are there.
+/// `linked` tells the code that the C functions are there.
 fn link_ours(folder: &Path) {
     println!("cargo::rustc-check-cfg=cfg(linked)");
     let archive = folder.join("libpicman_ffi.a");

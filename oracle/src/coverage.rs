@@ -6,7 +6,7 @@ use crate::papers::marking;
 use std::fmt;
 
 /// The rows of the table. A put of no picture and the slice types stand apart.
-const KINDS: [&str; 13] = [
+pub const KINDS: [&str; 13] = [
     "init",
     "get",
     "put",
@@ -135,7 +135,7 @@ impl Coverage {
     }
 }
 
-fn kind(call: &Call) -> usize {
+pub fn kind(call: &Call) -> usize {
     match call {
         Call::Init { .. } => 0,
         Call::Get => 1,
@@ -152,7 +152,7 @@ fn kind(call: &Call) -> usize {
     }
 }
 
-fn status_name(status: u8) -> String {
+pub fn status_name(status: u8) -> String {
     match status {
         0 => "done".to_string(),
         NOT_YET => "not yet".to_string(),

@@ -6,6 +6,9 @@ use crate::image::{field_name, Entry, Image, Machine, ENTRY_BYTES, IMAGE_BYTES, 
 use crate::original::Original;
 use crate::ours::Ours;
 use crate::papers::{self, whole::whole};
+use crate::running::judge::{Judged, RunningJudge};
+use crate::running::library::OursRunning;
+use crate::running::Running;
 use crate::samples::{Request, Samples};
 use crate::watch;
 use std::fmt::Write;
@@ -16,29 +19,32 @@ pub struct Difference(pub String);
 
 pub type Verdict<T> = Result<T, Difference>;
 
-/// One machine: as our image, by document 01, and as a live original once one is needed.
+/// One machine: as our image, by document 01, and as a live original once one is needed; from the new state on also as
+/// our running machine.
 pub struct Sides {
     pub image: Box<Image>,
     pub machine: Machine,
     original: Option<Original>,
+    running: Option<Box<Running>>,
 }
 
 impl Sides {
     pub fn from_machine(machine: &Machine) -> Sides {
         let mut image = Box::new([0; IMAGE_BYTES]);
         machine.encode(&mut image);
-        Sides { image, machine: machine.clone(), original: None }
+        Sides { image, machine: machine.clone(), original: None, running: None }
     }
 
-    /// The program's start, with an original that stays live from call to call.
+    /// The program's start, with an original and a running machine that stay live from call to call.
     pub fn new() -> Sides {
-        Sides { original: Some(Original::default()), ..Sides::from_machine(&Machine::default()) }
+        let running = Some(Box::new(Running::new()));
+        Sides { original: Some(Original::default()), running, ..Sides::from_machine(&Machine::default()) }
     }
 
     /// None where a flag byte is neither 0 nor 1.
     pub fn from_image(image: &Image) -> Option<Sides> {
         let machine = Machine::decode(image)?;
-        Some(Sides { image: Box::new(*image), machine, original: None })
+        Some(Sides { image: Box::new(*image), machine, original: None, running: None })
     }
 }
 
@@ -50,13 +56,15 @@ impl Default for Sides {
 
 pub struct Judge {
     pub ours: Box<dyn Ours>,
+    pub running: RunningJudge,
     pub coverage: Coverage,
     pub samples: Samples,
 }
 
 impl Judge {
-    pub fn new(ours: Box<dyn Ours>, seed: u64) -> Judge {
-        Judge { ours, coverage: Coverage::default(), samples: Samples::new(seed) }
+    pub fn new(ours: Box<dyn Ours>, running: Box<dyn OursRunning>, seed: u64) -> Judge {
+        let running = RunningJudge::new(running);
+        Judge { ours, running, coverage: Coverage::default(), samples: Samples::new(seed) }
     }
 
     /// One call, from its bytes.
@@ -67,7 +75,7 @@ impl Judge {
         let status = self.ours.call(&mut sides.image[..], bytes, &mut answer);
 
         let call = Call::parse(bytes);
-        let machine_before = call.map(|_| sides.machine.clone());
+        let machine_before = sides.machine.clone();
         let outcome = call.map(|call| papers::call(&mut sides.machine, &call));
         let reply = match (call, outcome) {
             (Some(call), Some(outcome)) => Reply::new(call.code(), outcome),
@@ -84,16 +92,35 @@ impl Judge {
             agree("answer", &reply.bytes(), &answer)?;
             same_images(sides, &expected)
         });
+        let found = found.and_then(|()| {
+            let machine_before = &machine_before;
+            let (after, machine_after) = (&*sides.image, &sides.machine);
+            let call = call.as_ref();
+            let judged = Judged { before: &before, machine_before, bytes, call, reply, after, machine_after };
+            self.running.judged(&judged)?;
+            sides.running.as_mut().map_or(Ok(()), |live| self.running.in_place(live, &judged))
+        });
         let asked = || format!("call {}, ours answers {}\n{call:?}", hex(bytes), hex(&answer));
         found.map_err(|why| report(&why, &asked(), &before))?;
 
-        if let (Some(call), Some(before_call)) = (call, machine_before) {
-            match outcome {
-                Some(Ok(_)) => self.coverage.accepted(&call, &before_call, &sides.machine, &reply),
-                _ => self.samples.offer(reply.status, &before_call, Request::Call(call)),
+        match (call, outcome) {
+            (Some(call), Some(Ok(_))) => {
+                self.coverage.accepted(&call, &machine_before, &sides.machine, &reply);
             }
+            (Some(call), _) => self.samples.offer(reply.status, &machine_before, Request::Call(call)),
+            _ => {}
         }
         Ok(reply)
+    }
+
+    /// The end of a sequence: the running machine on which its calls went in place is saved and compared.
+    pub fn settle(&mut self, sides: &mut Sides) -> Verdict<()> {
+        let Some(live) = &mut sides.running else {
+            return Ok(());
+        };
+        self.running.coverage.sequences += 1;
+        let settled = self.running.settle(live, &sides.image);
+        settled.map_err(|why| report(&why, "at the end of a sequence", &sides.image))
     }
 
     /// One copy, from the bytes of its entry.
@@ -103,6 +130,7 @@ impl Judge {
         let status = self.ours.copy_refp(&mut sides.image[..], cnt, lidx, bytes);
 
         let entry = Entry::decode(bytes);
+        let machine_before = sides.machine.clone();
         let outcome = entry.map(|entry| papers::copy::copy(&mut sides.machine, cnt, lidx, &entry));
         let expected_status = outcome.map_or(BAD_LINE, |outcome| outcome.err().unwrap_or(0));
         self.coverage.copy(expected_status);
@@ -115,7 +143,9 @@ impl Judge {
         };
         let found = expected.and_then(|expected| {
             agree("status", &[expected_status], &[status])?;
-            same_images(sides, &expected)
+            same_images(sides, &expected)?;
+            let (live, machines) = (sides.running.as_deref_mut(), (&machine_before, &sides.machine));
+            self.running.copied(live, (cnt, lidx), bytes, machines, expected_status)
         });
         let asked = || format!("copy to place {cnt} of list {lidx}, ours answers {status}\n{entry:?}");
         found.map_err(|why| report(&why, &asked(), &before))?;
@@ -166,10 +196,15 @@ impl Judge {
     pub fn no_image(&mut self, bytes: &mut [u8], call: &[u8], answer: &mut [u8], entry: &[u8]) -> Verdict<()> {
         watch::step();
         let before = (bytes.to_vec(), answer.to_vec());
+        let by_load = match answer.len() {
+            8 => self.running.load_refused(bytes, BAD_LINE),
+            _ => Ok(()),
+        };
         let by_call = self.ours.call(bytes, call, answer);
         let by_copy = self.ours.copy_refp(bytes, 0, 0, entry);
         self.coverage.no_image(BAD_LINE);
-        let found = agree("status of the call", &[BAD_LINE], &[by_call])
+        let found = by_load
+            .and_then(|()| agree("status of the call", &[BAD_LINE], &[by_call]))
             .and_then(|()| agree("status of the copy", &[BAD_LINE], &[by_copy]))
             .and_then(|()| agree("image", &before.0, bytes))
             .and_then(|()| agree("answer", &before.1, answer));

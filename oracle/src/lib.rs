@@ -54,6 +54,7 @@ pub mod original;
 pub mod ours;
 pub mod papers;
 pub mod rng;
+pub mod running;
 pub mod runs;
 pub mod samples;
 pub mod watch;

@@ -5,6 +5,7 @@ use crate::api::{ChromaSampling, EvcError, SliceType};
 use crate::call::{Answer, Call, Lists, Outcome, Put};
 use crate::def::{EvcPoc, EvcSps, REFP_NUM};
 use crate::image::{Entry, Image, Machine, Record, Slot, LISTS, PLACES};
+use crate::papers::MAX_POC;
 use crate::picman::{EvcPic, EvcPm, EvcRefP};
 use crate::{enc::tbl, util};
 use std::cell::RefCell;
@@ -103,7 +104,21 @@ impl Original {
         }
     }
 
-    pub fn has_lease(&self) -> bool {
+    /// The same behind tests that cost nothing (3, 4, 6, 15); the rest is left to the original, which may panic or never
+    /// return.
+    #[inline]
+    pub fn guarded(&mut self, call: &Call) -> Outcome {
+        match call {
+            Call::Get if self.has_lease() => Err(3),
+            Call::Put(put) if !put.has(Put::NO_PICTURE) && put.poc > MAX_POC => Err(6),
+            Call::Put(put) if !put.has(Put::NO_PICTURE) && !self.has_lease() => Err(4),
+            Call::Lists(lists) if lists.poc > MAX_POC => Err(6),
+            Call::Derive { log2_length, layer } if *log2_length > 15 || layer > log2_length => Err(15),
+            _ => self.call(call),
+        }
+    }
+
+    fn has_lease(&self) -> bool {
         self.pm.pic_lease.is_some()
     }
 

@@ -3,24 +3,30 @@
 
 #include "picman.h"
 
-static uint8_t image[PICMAN_IMAGE];
+static picman_machine machine; /* all zero: the new machine */
 
-static void answer_to(const uint8_t *call, size_t len) {
-    uint8_t answer[PICMAN_ANSWER];
-    picman_call(image, sizeof image, call, len, answer, sizeof answer);
-    for (size_t i = 0; i < sizeof answer; i++) printf("%02x", answer[i]);
+static void print(const uint8_t line[PICMAN_ANSWER]) {
+    for (int i = 0; i < PICMAN_ANSWER; i++) printf("%02x", line[i]);
     printf("\n");
 }
 
+/* As an answer line shows it: call, status, buffer, value, and a check byte that makes the sum 0. */
+static void show(uint8_t call, picman_answer answer) {
+    uint32_t value = PICMAN_VALUE(answer);
+    uint8_t line[PICMAN_ANSWER] = {call, PICMAN_STATUS(answer), PICMAN_BUFFER(answer), (uint8_t)(value >> 24),
+                                   (uint8_t)(value >> 16), (uint8_t)(value >> 8), (uint8_t)value, 0};
+    for (int i = 0; i < 7; i++) line[7] = (uint8_t)(line[7] - line[i]);
+    print(line);
+}
+
 int main(void) {
-    const uint8_t init[] = {1, 4, 2, 0xf9}, get[] = {2, 0xfe}, out[] = {4, 0xfc}, bad[] = {0};
-    const uint8_t put[] = {3, 7, 0, 0, 0, 0, 0, 0, 0, 0, 0, 0xf6};
-    picman_new(image, sizeof image);
-    answer_to(init, sizeof init);
-    answer_to(get, sizeof get);
-    answer_to(put, sizeof put);
-    answer_to(out, sizeof out);
-    answer_to(out, sizeof out);
-    answer_to(bad, sizeof bad);
+    const uint8_t bad[] = {0};
+    uint8_t line[PICMAN_ANSWER];
+    show(1, picman_init(&machine, 4, 2));
+    show(2, picman_get(&machine));
+    show(3, picman_put(&machine, PICMAN_IDR | PICMAN_WANTED | PICMAN_REFERENCE, 0, 0, 0));
+    show(4, picman_out(&machine));
+    show(4, picman_out(&machine));
+    if (picman_call_bytes(&machine, bad, sizeof bad, line) == PICMAN_BAD) print(line);
     return 0;
 }

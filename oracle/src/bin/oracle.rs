@@ -11,7 +11,8 @@ use oracle::original::Original;
 use oracle::ours::{self, Ours, StandIn};
 use oracle::papers::{self, whole::RULES};
 use oracle::rng::Rng;
-use oracle::runs::{exhaustive, frames, images, sequences, states, tables};
+use oracle::running::library;
+use oracle::runs::{exhaustive, frames, images, running, sequences, states, tables};
 use oracle::{children, lines, watch};
 use std::io::{self, BufRead, Write};
 use std::process::ExitCode;
@@ -62,15 +63,18 @@ fn options(words: &[String]) -> Result<Options, String> {
 }
 
 fn compare(options: &Options) -> Result<u8, String> {
-    let linked = ours::linked().ok_or("libpicman_ffi.a was not there when this was built");
+    const NOT_LINKED: &str = "libpicman_ffi.a was not there when this was built";
+    let (linked, linked_running) = (ours::linked().ok_or(NOT_LINKED), library::linked().ok_or(NOT_LINKED));
     let ours: Box<dyn Ours> = if options.standin { Box::new(StandIn) } else { linked? };
+    let ours_running = if options.standin { Box::new(library::StandIn) } else { linked_running? };
     println!("ours: {}", ours.name());
     println!("the Rust: revc's picman.rs, evc_poc_derivation and depth tables, unchanged");
-    println!("compared after every call: its status, its answer and all 6,407 bytes of the image");
+    println!("compared after every call: its status, its answer and all 6,407 bytes of the image,");
+    println!("and the same by the running machine, loaded and saved, and in place");
     println!("seed {}, about {} random calls", options.seed, options.calls);
     watch::start(options.seed);
 
-    let mut judge = Judge::new(ours, options.seed);
+    let mut judge = Judge::new(ours, ours_running, options.seed);
     let compared = all_runs(&mut judge, options);
     let calls = judge.coverage.calls;
     if let Err(Difference(why)) = compared {
@@ -78,7 +82,8 @@ fn compare(options: &Options) -> Result<u8, String> {
         return Ok(1);
     }
     println!("{}", judge.coverage);
-    let missing = judge.coverage.missing();
+    println!("{}", judge.running.coverage);
+    let missing = [judge.coverage.missing(), judge.running.coverage.missing()].concat();
     if !missing.is_empty() {
         println!("not met, so this run says too little: {}", missing.join("; "));
         return Ok(1);
@@ -113,6 +118,8 @@ fn all_runs(judge: &mut Judge, options: &Options) -> Result<(), Difference> {
     let broken = states::run_broken(judge, rng, options.calls / 10)?;
     states::run_flipped(judge, rng, options.calls / 10)?;
     phase(judge, "broken and flipped states");
+    running::run_lengths(judge, rng)?;
+    running::run_any_bits(judge, rng, options.calls / 10)?;
     for (rule, count) in RULES.iter().zip(broken) {
         println!("  {count:>10}  states break only: {rule}");
     }

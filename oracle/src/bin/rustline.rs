@@ -3,11 +3,10 @@
 //! return. `rustline generate N SEED [every]` writes a file of N call lines: mostly accepted, and without calls
 //! on which the original does that; with `every`, refusals of every kind.
 
-use oracle::call::{Call, Outcome, Put, Reply};
+use oracle::call::Reply;
 use oracle::generate::lines::{LineMaker, Refusals};
 use oracle::lines::{answer_line, call_of};
 use oracle::original::Original;
-use oracle::papers::MAX_POC;
 use std::io::{self, BufRead, BufReader, BufWriter, Write};
 use std::process::ExitCode;
 
@@ -47,19 +46,7 @@ fn answer_lines() -> io::Result<()> {
 fn answer(original: &mut Original, line: &[u8]) -> Reply {
     match call_of(line) {
         None => Reply::BAD,
-        Some(call) => Reply::new(call.code(), guarded(original, &call)),
-    }
-}
-
-#[inline]
-fn guarded(original: &mut Original, call: &Call) -> Outcome {
-    match call {
-        Call::Get if original.has_lease() => Err(3),
-        Call::Put(put) if !put.has(Put::NO_PICTURE) && put.poc > MAX_POC => Err(6),
-        Call::Put(put) if !put.has(Put::NO_PICTURE) && !original.has_lease() => Err(4),
-        Call::Lists(lists) if lists.poc > MAX_POC => Err(6),
-        Call::Derive { log2_length, layer } if *log2_length > 15 || layer > log2_length => Err(15),
-        _ => original.call(call),
+        Some(call) => Reply::new(call.code(), original.guarded(&call)),
     }
 }
 

@@ -5,4 +5,5 @@ pub mod calls;
 pub mod group;
 pub mod lines;
 pub mod mixes;
+pub mod running;
 pub mod states;

@@ -24,7 +24,7 @@ fn sequence(judge: &mut Judge, rng: &mut Rng) -> Verdict<()> {
             copy(judge, rng, &mut sides)?;
         }
     }
-    Ok(())
+    judge.settle(&mut sides)
 }
 
 /// A copy into the lists as the calls left them.
