@@ -1,12 +1,29 @@
 -- `whole::tally_all` meets its contract: what is gathered so far, with what is left, gives what all keys give. Assumes nothing.
 use mathlib.Core.Path.{_≡_, refl}
-use Prim.Native.Nat.{_+_, _≤_, _-_, _%_}
+use mathlib.Core.List.{List}
+use Prim.Native.Nat.{ℕ, _+_, _≤_, _<_, _-_, _%_}
 use native.Mathlib.Omega.{arith}
-use lib.ListN.{length}
+use lib.ListN.{length, getD}
 use Rattle.def.specs.State.{slots}
+use Rattle.whole.specs.declared.Tally.{Tally}
+use Rattle.whole.specs.Tallies.{Roomy, tallied}
 use Rattle.whole.proofs.TallyLaws.{Passing, passing-none, passing-room, passing-turn, passing-end}
 use Rattle.whole.proofs.tally_all.Statement.{statement}
 use Rattle.whole.proofs.tally_all.Tie as tie
+
+-- Three keys from place i on.
+module _ (keys : List ℕ) {t : Tally} {i : ℕ} (p : Passing keys t i) (more : i + 2 < length keys) (long : length keys ≡ slots) where
+  first : Passing keys (tallied t (getD keys i 0)) (i + 1)
+  first = passing-turn keys _ _ p (omega arith) refl refl
+
+  second : Passing keys (tallied (tallied t (getD keys i 0)) (getD keys (i + 1) 0)) (i + 2)
+  second = passing-turn keys _ _ first (omega arith) refl (omega arith)
+
+  third : Passing keys (tallied (tallied (tallied t (getD keys i 0)) (getD keys (i + 1) 0)) (getD keys (i + 2) 0)) (i + 3)
+  third = passing-turn keys _ _ second (omega arith) refl (omega arith)
+
+  room : Roomy t × Roomy (tallied t (getD keys i 0)) × Roomy (tallied (tallied t (getD keys i 0)) (getD keys (i + 1) 0))
+  room = (passing-room keys p (omega arith), passing-room keys first (omega arith), passing-room keys second (omega arith))
 
 abbrev Inv-loop : tie.InvT-loop
 Inv-loop keys t₀ i₀ t i = (i ≤ slots) × (i % 3 ≡ 0) × (length keys ≡ slots) × Passing keys t i
@@ -17,45 +34,34 @@ abbrev μ-loop : tie.MeasureT-loop
 loop-holds : tie.Need-loop-holds Inv-loop μ-loop
 loop-holds c = (omega arith, refl, c .before .pre, passing-none _)
 
-mul-tally-key : tie.Need-mul-tally-key Inv-loop μ-loop
-mul-tally-key c = omega arith
+mul-tally-three : tie.Need-mul-tally-three Inv-loop μ-loop
+mul-tally-three c = omega arith
 
-shared-slice-read-tally-key : tie.Need-shared-slice-read-tally-key Inv-loop μ-loop
-shared-slice-read-tally-key c = omega arith
+shared-slice-read-tally-three : tie.Need-shared-slice-read-tally-three Inv-loop μ-loop
+shared-slice-read-tally-three c = omega arith
 
-tally-key-requires : tie.Need-tally-key-requires Inv-loop μ-loop
-tally-key-requires c κs = let l = c .before .before .loop in passing-room _ (l .inv .3) (l .inv .0)
+add-tally-three : tie.Need-add-tally-three Inv-loop μ-loop
+add-tally-three c = omega arith
 
-add-tally-key : tie.Need-add-tally-key Inv-loop μ-loop
-add-tally-key c = omega arith
+mul-tally-three-2 : tie.Need-mul-tally-three-2 Inv-loop μ-loop
+mul-tally-three-2 c = omega arith
 
-mul-tally-key-2 : tie.Need-mul-tally-key-2 Inv-loop μ-loop
-mul-tally-key-2 c = omega arith
+shared-slice-read-tally-three-2 : tie.Need-shared-slice-read-tally-three-2 Inv-loop μ-loop
+shared-slice-read-tally-three-2 c = omega arith
 
-shared-slice-read-tally-key-2 : tie.Need-shared-slice-read-tally-key-2 Inv-loop μ-loop
-shared-slice-read-tally-key-2 c = omega arith
+add-tally-three-2 : tie.Need-add-tally-three-2 Inv-loop μ-loop
+add-tally-three-2 c = omega arith
 
--- the first key is passed, and the second
-first : (c : tie.After-tally-key Inv-loop μ-loop) → Passing (c .before .before .before .before .before .args .keys .now) (c .tally-key .result) (c .before .before .before .loop .i + 1)
-first c = let l = c .before .before .before .loop in passing-turn _ _ _ (l .inv .3) (omega arith) (c .tally-key .ensures) refl
+mul-tally-three-3 : tie.Need-mul-tally-three-3 Inv-loop μ-loop
+mul-tally-three-3 c = omega arith
 
-second : (c : tie.After-tally-key2 Inv-loop μ-loop) → Passing (c .before .before .before .before .before .before .before .args .keys .now) (c .tally-key2 .result) (c .before .before .before .before .before .loop .i + 2)
-second c = let l = c .before .before .before .before .before .loop in passing-turn _ _ _ (first (c .before .before)) (omega arith) (c .tally-key2 .ensures) (omega arith)
+shared-slice-read-tally-three-3 : tie.Need-shared-slice-read-tally-three-3 Inv-loop μ-loop
+shared-slice-read-tally-three-3 c = omega arith
 
-tally-key-requires-2 : tie.Need-tally-key-requires-2 Inv-loop μ-loop
-tally-key-requires-2 c κs = passing-room _ (first (c .before)) (omega arith)
-
-add-tally-key-2 : tie.Need-add-tally-key-2 Inv-loop μ-loop
-add-tally-key-2 c = omega arith
-
-mul-tally-key-3 : tie.Need-mul-tally-key-3 Inv-loop μ-loop
-mul-tally-key-3 c = omega arith
-
-shared-slice-read-tally-key-3 : tie.Need-shared-slice-read-tally-key-3 Inv-loop μ-loop
-shared-slice-read-tally-key-3 c = omega arith
-
-tally-key-requires-3 : tie.Need-tally-key-requires-3 Inv-loop μ-loop
-tally-key-requires-3 c κs = passing-room _ (second (c .before)) (omega arith)
+tally-three-requires : tie.Need-tally-three-requires Inv-loop μ-loop
+tally-three-requires c κs =
+    let at-loop = c .before .before .before .before in
+    room (at-loop .before .before .args .keys .now) (at-loop .loop .inv .3) (omega arith) (at-loop .loop .inv .2)
 
 add-i : tie.Need-add-i Inv-loop μ-loop
 add-i c = omega arith
@@ -65,9 +71,9 @@ loop-less c = omega arith
 
 loop-again : tie.Need-loop-again Inv-loop μ-loop
 loop-again c =
-    let at-second = c .before .before in
-    let l = at-second .before .before .before .before .before .loop in
-    (omega arith, omega arith, l .inv .2, passing-turn _ _ _ (second at-second) (omega arith) (c .tally-key3 .ensures) (omega arith))
+    let at-loop = c .before .before .before .before .before in
+    let l = at-loop .loop in
+    (omega arith, omega arith, l .inv .2, rw (c .tally-three .ensures) (third (at-loop .before .before .args .keys .now) (l .inv .3) (omega arith) (l .inv .2)))
 
 returns : tie.Need-returns Inv-loop μ-loop
 returns c = let l = c .before .loop in (passing-end _ (l .inv .3) (omega arith), passing-room _ (l .inv .3) (l .inv .0))
@@ -79,17 +85,15 @@ tally-all-spec =
     Inv-loop
     μ-loop
     loop-holds
-    mul-tally-key
-    shared-slice-read-tally-key
-    tally-key-requires
-    add-tally-key
-    mul-tally-key-2
-    shared-slice-read-tally-key-2
-    tally-key-requires-2
-    add-tally-key-2
-    mul-tally-key-3
-    shared-slice-read-tally-key-3
-    tally-key-requires-3
+    mul-tally-three
+    shared-slice-read-tally-three
+    add-tally-three
+    mul-tally-three-2
+    shared-slice-read-tally-three-2
+    add-tally-three-2
+    mul-tally-three-3
+    shared-slice-read-tally-three-3
+    tally-three-requires
     add-i
     loop-less
     loop-again
