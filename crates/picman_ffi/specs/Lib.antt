@@ -1,4 +1,2 @@
 pub mod Depths
-pub mod Copied
-pub mod Called
 pub mod Claims

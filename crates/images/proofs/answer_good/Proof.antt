@@ -1,4 +1,4 @@
--- `picman_ffi::answer_good` meets its contract: the callees' contracts, last call first.
+-- `images::answer_good` meets its contract: the callees' contracts, last call first.
 -- Assumes nothing.
 use mathlib.Core.Path.{ap, subst, _∙_}
 use Rattle.machine.specs.declared.Machine.{Machine}
@@ -6,8 +6,8 @@ use Rattle.machine.specs.declared.Stepped.{Stepped}
 use Rattle.machine.specs.Step.{step}
 use Rattle.exchange.specs.Lent.{Holds}
 use borrow.Author.Needs.{needs}
-use Rattle.picman_ffi.proofs.answer_good.Statement.{statement}
-use Rattle.picman_ffi.proofs.answer_good.Tie as tie
+use Rattle.images.proofs.answer_good.Statement.{statement}
+use Rattle.images.proofs.answer_good.Tie as tie
 
 read-machine-requires : tie.Need-read-machine-requires
 read-machine-requires c κs = search needs

@@ -1,4 +1,4 @@
--- `picman_ffi::picman_copy_refp` meets its contract: each way out knows which test failed, the last that both were passed.
+-- `images::copy_image` meets its contract: each way out knows which test failed, the last that both were passed.
 -- Assumes nothing.
 use mathlib.Core.Path.{_≡_, sym, _∙_}
 use mathlib.Core.Bool.{true, false, true≢false}
@@ -11,12 +11,12 @@ use borrow.Author.Tests.{not-true, not-false, eqb-true}
 use Rattle.seq.specs.All.{and-left}
 use Rattle.image.specs.Image.{refpWidth, Bytes, isFlag, isImage}
 use Rattle.exchange.specs.Lent.{Left, left, machineOf, Holds}
-use Rattle.picman_ffi.specs.Copied.{isEntry, copyInto, withLists, relisted, copied, Copies}
+use Rattle.images.specs.Copied.{isEntry, copyInto, withLists, relisted, copied, Copies}
 use Rattle.image.specs.BytesKept.{image-long}
-use Rattle.picman_ffi.proofs.TurnedDown.{left-kept, copy-kept}
+use Rattle.images.proofs.TurnedDown.{left-kept, copy-kept}
 use borrow.Author.Needs.{needs}
-use Rattle.picman_ffi.proofs.picman_copy_refp.Statement.{statement}
-use Rattle.picman_ffi.proofs.picman_copy_refp.Tie as tie
+use Rattle.images.proofs.copy_image.Statement.{statement}
+use Rattle.images.proofs.copy_image.Tie as tie
 
 -- where both tests are passed
 copied-fits : (image : List ℕ) (cnt lidx : ℕ) (entry : List ℕ) (x : Left) → isImage image ≡ true → isEntry entry ≡ true
@@ -80,8 +80,8 @@ returns-3 c =
     let e = c .before .before .copy-entry .ensures in
     copies _ _ _ _ _ _ (bytes (s .before .before .before .before .before .before)) (copied-fits _ _ _ _ _ (an-image (s .before .before)) (an-entry s) (e .0)) (λ _ _. e .1)
 
-pub picman-copy-refp-spec : {M : Type 1} → statement M
-picman-copy-refp-spec =
+pub copy-image-spec : {M : Type 1} → statement M
+copy-image-spec =
     tie.close
     (tie.spec
     is-image-requires

@@ -1,10 +1,10 @@
--- `picman_ffi::copy_entry` meets its contract: the callees' contracts, last call first.
+-- `images::copy_entry` meets its contract: the callees' contracts, last call first.
 -- Assumes nothing.
 use mathlib.Core.Path.{_≡_}
-use Rattle.picman_ffi.specs.Copied.{copyInto}
+use Rattle.images.specs.Copied.{copyInto}
 use borrow.Author.Needs.{needs}
-use Rattle.picman_ffi.proofs.copy_entry.Statement.{statement}
-use Rattle.picman_ffi.proofs.copy_entry.Tie as tie
+use Rattle.images.proofs.copy_entry.Statement.{statement}
+use Rattle.images.proofs.copy_entry.Tie as tie
 
 read-machine-requires : tie.Need-read-machine-requires
 read-machine-requires c κs = search needs

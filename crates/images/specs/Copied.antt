@@ -1,4 +1,4 @@
--- `picman_copy_refp`: what it gives, and the image as it leaves it.
+-- `copy_image`: what it gives, and the image as it leaves it.
 -- Assumes nothing.
 use Prim.Native.Nat.{ℕ}
 use mathlib.Core.Path.{_≡_}

@@ -1,11 +1,11 @@
--- `picman_ffi::is_entry` meets its contract: the length first, and where it is right the flag.
+-- `images::is_entry` meets its contract: the length first, and where it is right the flag.
 -- Assumes nothing.
 use lib.ListN.{length}
 use borrow.Author.Tests.{eq-eqb, ne-eqb}
 use Rattle.image.specs.Image.{refpWidth}
 use borrow.Author.Needs.{needs}
-use Rattle.picman_ffi.proofs.is_entry.Statement.{statement}
-use Rattle.picman_ffi.proofs.is_entry.Tie as tie
+use Rattle.images.proofs.is_entry.Statement.{statement}
+use Rattle.images.proofs.is_entry.Tie as tie
 
 returns : tie.Need-returns
 returns c = rw (ne-eqb (length (c .before .before .args .entry .now)) refpWidth (c .if1 .taken))

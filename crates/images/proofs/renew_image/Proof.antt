@@ -1,4 +1,4 @@
--- `picman_ffi::picman_new` meets its contract: the length is tested, and the new machine written.
+-- `images::renew_image` meets its contract: the length is tested, and the new machine written.
 -- Assumes nothing.
 use mathlib.Core.Path.{_≡_, subst}
 use mathlib.Core.List.{List}
@@ -6,13 +6,13 @@ use Prim.Native.Nat.{ℕ}
 use lib.ListN.{length}
 use borrow.Author.Tests.{eq-eqb, ne-eqb}
 use Rattle.image.specs.Image.{imageLength}
-use Rattle.picman_ffi.specs.Called.{renewed, Renews}
+use Rattle.images.specs.Called.{renewed, Renews}
 use Rattle.exchange.specs.Lent.{left, Holds}
 use Rattle.machine.specs.Step.{newMachine}
-use Rattle.picman_ffi.proofs.TurnedDown.{left-kept, new-kept}
+use Rattle.images.proofs.TurnedDown.{left-kept, new-kept}
 use borrow.Author.Needs.{needs}
-use Rattle.picman_ffi.proofs.picman_new.Statement.{statement}
-use Rattle.picman_ffi.proofs.picman_new.Tie as tie
+use Rattle.images.proofs.renew_image.Statement.{statement}
+use Rattle.images.proofs.renew_image.Tie as tie
 
 renews : (r : ℕ) (image image′ : List ℕ) → left r image′ ≡ renewed image → (length image ≡ imageLength → Holds image′ newMachine) → Renews r image image′
 renews r image image′ e h = record { given = e; holds = h; kept = left-kept e (new-kept image) }
@@ -40,6 +40,6 @@ returns-2 c =
     (rw (eq-eqb (length (long .before .before .args .image .now)) imageLength (long .if1 .left), written .write-machine .ensures .0, made .new-machine .ensures))
     (λ _. subst (Holds (written .write-machine .last .0)) (made .new-machine .ensures) (written .write-machine .ensures .1))
 
-pub picman-new-spec : {M : Type 1} → statement M
-picman-new-spec =
+pub renew-image-spec : {M : Type 1} → statement M
+renew-image-spec =
     tie.close (tie.spec returns new-machine-requires write-machine-requires same-length returns-2)

@@ -1,4 +1,4 @@
--- `picman_new` and `picman_call`: what they give, and the buffers as they leave them.
+-- `renew_image` and `call_image`: what they give, and the buffers as they leave them.
 -- Assumes nothing.
 use Prim.Native.Nat.{ℕ}
 use mathlib.Core.Path.{_≡_}
@@ -16,7 +16,7 @@ use Rattle.machine.specs.Step.{newMachine, step, stepLine}
 use Rattle.running.specs.Wire.{answerLength, answerBytes}
 use Rattle.exchange.specs.Lent.{badLine, TurnedDown, Left, left, machineOf, machineBytes, Holds}
 
--- `picman_new`: the new machine, whatever the bytes were. Another length is 18, and nothing is written.
+-- `renew_image`: the new machine, whatever the bytes were. Another length is 18, and nothing is written.
 unfoldable pub renewed : List ℕ → Left
 unfolding imageBytes
 renewed image = cond (eqb (length image) imageLength) (left 0 (machineBytes newMachine)) (left badLine image)
@@ -44,7 +44,7 @@ abbrev pub answerTo : List ℕ → Line → Answered
 answerTo image (Good c) = replied (step (machineOf image) c)
 answerTo image Bad = answered badLine image (answerBytes badLineReply)
 
--- `picman_call`: 18, and nothing is written, unless image and answer buffer are what they must be.
+-- `call_image`: 18, and nothing is written, unless image and answer buffer are what they must be.
 unfoldable pub called : List ℕ → List ℕ → List ℕ → Answered
 unfolding imageBytes pmOf refpOf pocOf isImage callFrom step
 called image call answer =

@@ -1,9 +1,9 @@
--- `picman_ffi::answer_bad` meets its contract. Assumes nothing.
+-- `images::answer_bad` meets its contract. Assumes nothing.
 use mathlib.Core.Path.{refl, ap, _∙_}
 use Rattle.running.specs.Wire.{answerBytes}
 use borrow.Author.Needs.{needs}
-use Rattle.picman_ffi.proofs.answer_bad.Statement.{statement}
-use Rattle.picman_ffi.proofs.answer_bad.Tie as tie
+use Rattle.images.proofs.answer_bad.Statement.{statement}
+use Rattle.images.proofs.answer_bad.Tie as tie
 
 bad-line-reply-requires : tie.Need-bad-line-reply-requires
 bad-line-reply-requires c κs = search needs

@@ -19,9 +19,9 @@ use Rattle.image.specs.BytesKept.{bytes-kept}
 use Rattle.machine.specs.Step.{newMachine}
 use Rattle.machine.proofs.EveryCall.{refused-answer, call-unchanged}
 use Rattle.exchange.specs.Lent.{badLine, TurnedDown, Left, left, machineOf, machineBytes}
-use Rattle.picman_ffi.specs.Copied.{isEntry, copyInto, withLists, relisted, copied}
+use Rattle.images.specs.Copied.{isEntry, copyInto, withLists, relisted, copied}
 use Rattle.running.specs.Wire.{answerLength}
-use Rattle.picman_ffi.specs.Called.{Answered, answered, answerTo, renewed, called}
+use Rattle.images.specs.Called.{Answered, answered, answerTo, renewed, called}
 
 -- from what a definition leaves to what a buffer holds
 pub left-kept : {r : ℕ} {image image′ : List ℕ} {x : Left} → left r image′ ≡ x → (TurnedDown (x .given) → x .image ≡ image) → TurnedDown r → image′ ≡ image

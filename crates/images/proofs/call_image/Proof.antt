@@ -1,4 +1,4 @@
--- `picman_ffi::picman_call` meets its contract: each way out knows which test failed, or what the bytes of the call are.
+-- `images::call_image` meets its contract: each way out knows which test failed, or what the bytes of the call are.
 -- Assumes nothing.
 use mathlib.Core.Path.{_≡_, refl, sym, subst, _∙_}
 use mathlib.Core.Bool.{true, true≢false}
@@ -14,12 +14,12 @@ use Rattle.machine.specs.declared.Machine.{Machine}
 use Rattle.machine.specs.Step.{stepLine}
 use Rattle.running.specs.Wire.{answerLength}
 use Rattle.exchange.specs.Lent.{machineOf, Holds}
-use Rattle.picman_ffi.specs.Called.{answered, answerTo, called, Answers}
+use Rattle.images.specs.Called.{answered, answerTo, called, Answers}
 use Rattle.image.specs.BytesKept.{image-long}
-use Rattle.picman_ffi.proofs.TurnedDown.{answered-kept, call-kept}
+use Rattle.images.proofs.TurnedDown.{answered-kept, call-kept}
 use borrow.Author.Needs.{needs}
-use Rattle.picman_ffi.proofs.picman_call.Statement.{statement}
-use Rattle.picman_ffi.proofs.picman_call.Tie as tie
+use Rattle.images.proofs.call_image.Statement.{statement}
+use Rattle.images.proofs.call_image.Tie as tie
 
 -- where both tests are passed
 called-line : (image call answer : List ℕ) (l : Line) → isImage image ≡ true → length answer ≡ answerLength → callFrom call ≡ l
@@ -115,8 +115,8 @@ returns-4 c =
     (rw (answered .answer-bad .ensures .0, answered .answer-bad .ensures .1) (sym (called-line _ _ _ _ (an-image (tested .before)) (tested .if2 .left) e)))
     (λ f _. holds-line _ _ e (record { image = f; machine = refl }))
 
-pub picman-call-spec : {M : Type 1} → statement M
-picman-call-spec =
+pub call-image-spec : {M : Type 1} → statement M
+call-image-spec =
     tie.close
     (tie.spec
     is-image-requires

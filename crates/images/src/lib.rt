@@ -1,0 +1,127 @@
+// Calls on a machine as the bytes of an image, for exchange and comparison: thin over the crates below, and no faster than they must be. A size or
+// a flag byte that does not fit gives 18, and nothing is written. In the contracts `given` says, byte for byte, what is given and what the lent
+// buffers hold then; `holds` says that the bytes are an image again, from which the next call reads the machine that this one left; `kept` says
+// that a call that is turned down, with a number from 1 to 18, leaves the image as it was.
+use copying::check_copy_refp;
+use exchange::read_machine;
+use exchange::write_machine;
+use image::is_flag;
+use image::is_image;
+use image::read::read_refp;
+use line::Call;
+use line::Line;
+use line::read_call;
+use line::reply_of;
+use machine::fresh::new_machine;
+use running::BAD_LINE;
+use running::bad_line_reply;
+use running::wire::ANSWER_LENGTH;
+use running::wire::write_answer;
+use stepping::step;
+ghost use mathlib.Core.Path.{_≡_};
+ghost use lib.ListN.{length};
+ghost use Rattle.line.specs.Answers.{badLineReply};
+ghost use Rattle.image.specs.Image.{refpWidth, imageLength};
+ghost use Rattle.machine.specs.Step.{step};
+ghost use Rattle.exchange.specs.Lent.{badLine, left, machineOf, Holds};
+ghost use Rattle.running.specs.Wire.{answerLength, answerBytes};
+ghost use Rattle.images.specs.Called.{answered, replied, Renews, Answers};
+ghost use Rattle.images.specs.Copied.{isEntry, copyInto, withLists, relisted, Copies};
+
+const DONE: u8 = 0;
+
+const IMAGE_LENGTH: usize = 6407;
+
+const ENTRY_LENGTH: usize = 90;
+
+// Writes the new machine, whatever the image held: 0.
+pub fn renew_image(image: &mut [u8]) -> u8
+    ensures { λ r. ⌜ Renews r (now (image .entry)) (now (image .exit)) ⌝ }
+{
+    if image.len() != IMAGE_LENGTH {
+        return BAD_LINE;
+    }
+    let machine = new_machine();
+    write_machine(image, machine);
+    DONE
+}
+
+// A good call on buffers that are what they must be.
+fn answer_good(image: &mut [u8], call: Call, answer: &mut [u8]) -> u8
+    requires { ⌜ (length (now image) ≡ imageLength) × (length (now answer) ≡ answerLength) ⌝ }
+    ensures given { λ r. ⌜ answered r (now (image .exit)) (now (answer .exit)) ≡ replied (step (machineOf (now (image .entry))) call) ⌝ }
+    ensures holds { λ _. ⌜ Holds (now (image .exit)) (step (machineOf (now (image .entry))) call .machine) ⌝ }
+{
+    let before = read_machine(image);
+    let stepped = step(before, call);
+    let next = stepped.machine;
+    let reply = stepped.reply;
+    write_machine(image, next);
+    write_answer(answer, reply);
+    reply.status
+}
+
+fn answer_bad(answer: &mut [u8]) -> u8
+    requires { ⌜ length (now answer) ≡ answerLength ⌝ }
+    ensures { λ r. ⌜ (r ≡ badLine) × (now (answer .exit) ≡ answerBytes badLineReply) ⌝ }
+{
+    write_answer(answer, bad_line_reply());
+    BAD_LINE
+}
+
+// One call: the bytes of a call line, check byte too, not in hex. Writes the answer and gives its status.
+pub fn call_image(image: &mut [u8], call: &[u8], answer: &mut [u8]) -> u8
+    ensures { λ r. ⌜ Answers r (now (image .entry)) (now (call .entry)) (now (answer .entry)) (now (image .exit)) (now (answer .exit)) ⌝ }
+{
+    if !is_image(image) {
+        return BAD_LINE;
+    }
+    if answer.len() != ANSWER_LENGTH {
+        return BAD_LINE;
+    }
+    let line = read_call(call);
+    match line {
+        Line::Good(good) => answer_good(image, good, answer),
+        Line::Bad => answer_bad(answer),
+    }
+}
+
+fn is_entry(entry: &[u8]) -> bool
+    ensures { λ r. ⌜ r ≡ isEntry (now (entry .entry)) ⌝ }
+{
+    if entry.len() != ENTRY_LENGTH {
+        return false;
+    }
+    is_flag(entry, 0)
+}
+
+// Copy on an image and an entry that are what they must be.
+fn copy_entry(image: &mut [u8], cnt: u64, lidx: u64, entry: &[u8]) -> u8
+    requires { ⌜ (length (now image) ≡ imageLength) × (length (now entry) ≡ refpWidth) ⌝ }
+    ensures given { λ r. ⌜ left r (now (image .exit)) ≡ relisted (now (image .entry)) (copyInto (now (image .entry)) cnt lidx (now (entry .entry))) ⌝ }
+    ensures holds { λ _. ⌜ Holds (now (image .exit)) (withLists (machineOf (now (image .entry))) (copyInto (now (image .entry)) cnt lidx (now (entry .entry)) .refp)) ⌝ }
+{
+    let machine = read_machine(image);
+    let refp = machine.refp;
+    let src = read_refp(entry, 0);
+    let copied = check_copy_refp(refp, cnt, lidx, src);
+    let lists = copied.refp;
+    let mut after = machine;
+    after.refp = lists;
+    write_machine(image, after);
+    let answer = copied.answer;
+    reply_of(0, answer).status
+}
+
+// Writes an entry at place `cnt` of one list: 0, or 13 or 14.
+pub fn copy_image(image: &mut [u8], cnt: u64, lidx: u64, entry: &[u8]) -> u8
+    ensures { λ r. ⌜ Copies r (now (image .entry)) cnt lidx (now (entry .entry)) (now (image .exit)) ⌝ }
+{
+    if !is_image(image) {
+        return BAD_LINE;
+    }
+    if !is_entry(entry) {
+        return BAD_LINE;
+    }
+    copy_entry(image, cnt, lidx, entry)
+}
