@@ -1,7 +1,9 @@
 -- Document 01, "Turned-down calls": the number of each refusal, and what the Rust says or does in its place.
 -- Assumes nothing.
-use Prim.Native.Nat.{ℕ}
+use Prim.Native.Nat.{ℕ, _≤_}
+use mathlib.Core.Bool.{Bool, _&&_}
 use mathlib.Core.List.{List, [], _∷_}
+use lib.Dec.{leb}
 use Rattle.def.specs.declared.Refusal.{Refusal}
 use Rattle.def.specs.declared.Refusal.the-variants.{SizeTooBig, StoreFull, PictureLeased, NoLease, SlotTaken, NumberTooHigh, StateNotWhole, TooManyReferences, NoReferences, OldReference, ForwardListEmpty, BackwardListEmpty, SameNumber, NoSuchPlace, BadLayer, BadRecord, BadLength, BadLine}
 
@@ -24,6 +26,13 @@ refusalNumber BadLayer = 15
 refusalNumber BadRecord = 16
 refusalNumber BadLength = 17
 refusalNumber BadLine = 18
+
+-- The numbers of refusals, told by a test and as a fact.
+abbrev pub numberInUse : ℕ → Bool
+numberInUse n = leb 1 n && leb n 18
+
+abbrev pub NumberInUse : ℕ → Type 0
+NumberInUse n = (1 ≤ n) × (n ≤ 18)
 
 -- The Rust's word: an error that it returns, or what happens to it instead; `added` where it has no such test.
 pub data RustWord : Type 0 where

@@ -4,7 +4,8 @@ pub mod word;
 
 ghost use mathlib.Core.Path.{_≡_};
 ghost use Rattle.def.specs.Constants.{sliceTypeOf};
-ghost use Rattle.def.specs.Refusals.{refusalNumber};
+ghost use mathlib.Core.Bool.{_&&_};
+ghost use Rattle.def.specs.Refusals.{refusalNumber, numberInUse};
 ghost use Rattle.def.specs.State.{newPic, emptySlot};
 
 // Most pictures in one reference list.
@@ -86,6 +87,16 @@ pub enum Refusal {
     BadRecord,
     BadLength,
     BadLine,
+}
+
+// The highest number of a refusal.
+const HIGHEST_REFUSAL: u8 = 18;
+
+// Whether a status is the number of a refusal.
+pub fn is_refusal_number(n: u8) -> bool
+    ensures { λ r. ⌜ r ≡ numberInUse n ⌝ }
+{
+    (1 <= n) & (n <= HIGHEST_REFUSAL)
 }
 
 pub fn refusal_number(r: Refusal) -> u8

@@ -6,10 +6,11 @@ use mathlib.Core.Bool.{cond, _&&_}
 use mathlib.Core.List.{List}
 use lib.Dec.{eqb}
 use lib.ListN.{length}
+use Rattle.def.specs.Refusals.{NumberInUse}
 use Rattle.whole.specs.Whole.{whole}
 use Rattle.image.specs.Image.{imageLength, isImage}
 use Rattle.machine.specs.Lent.{slices, machineAt, sized}
-use Rattle.exchange.specs.Lent.{badLine, notWhole, TurnedDown, Left, left, machineOf, machineBytes, Holds}
+use Rattle.exchange.specs.Lent.{badLine, notWhole, Left, left, machineOf, machineBytes, Holds}
 
 -- ---- load
 
@@ -26,7 +27,7 @@ pub record Same (keys rows registers keys′ rows′ registers′ : List ℕ) : 
 pub record Loads (r : ℕ) (keys rows registers image keys′ rows′ registers′ : List ℕ) : Type 0 where
   pub given : r ≡ loadStatus keys rows registers image
   pub loaded : r ≡ 0 → machineAt (slices keys′ rows′ registers′) ≡ machineOf image
-  pub kept : TurnedDown r → Same keys rows registers keys′ rows′ registers′
+  pub kept : NumberInUse r → Same keys rows registers keys′ rows′ registers′
 
 -- ---- save
 
@@ -40,4 +41,4 @@ saved keys rows registers image =
 pub record Saves (r : ℕ) (keys rows registers image image′ : List ℕ) : Type 0 where
   pub given : left r image′ ≡ saved keys rows registers image
   pub holds : r ≡ 0 → Holds image′ (machineAt (slices keys rows registers))
-  pub kept : TurnedDown r → image′ ≡ image
+  pub kept : NumberInUse r → image′ ≡ image

@@ -1,6 +1,6 @@
 -- An image that is lent: the machine that it holds, and what a function gives and leaves in it once it returns.
 -- Assumes nothing.
-use Prim.Native.Nat.{ℕ, _≤_}
+use Prim.Native.Nat.{ℕ}
 use mathlib.Core.Path.{_≡_}
 use mathlib.Core.Bool.{true}
 use mathlib.Core.List.{List}
@@ -14,10 +14,6 @@ badLine = 18
 -- The number that is given where a state is not whole.
 abbrev pub notWhole : ℕ
 notWhole = 7
-
--- The numbers of refusals: a call that gives one has been turned down.
-abbrev pub TurnedDown : ℕ → Type 0
-TurnedDown n = (1 ≤ n) × (n ≤ 18)
 
 pub record Left : Type 0 where
   pub given : ℕ

@@ -7,6 +7,7 @@ use Prim.Native.Nat.{ℕ}
 use native.Mathlib.Omega.{arith}
 use lib.Dec.{eqb}
 use lib.ListN.{length}
+use Rattle.def.specs.Refusals.{NumberInUse}
 use Rattle.seq.specs.All.{and-left}
 use Rattle.def.specs.declared.EvcRefP.{EvcRefP}
 use Rattle.def.specs.declared.CopyResult.{CopyResult}
@@ -18,32 +19,32 @@ use Rattle.image.specs.Image.{imageLength, Bytes, refpAt, refpOf, isImage}
 use Rattle.image.specs.BytesKept.{bytes-kept}
 use Rattle.machine.specs.Step.{newMachine}
 use Rattle.machine.proofs.EveryCall.{refused-answer, call-unchanged}
-use Rattle.exchange.specs.Lent.{badLine, TurnedDown, Left, left, machineOf, machineBytes}
+use Rattle.exchange.specs.Lent.{badLine, Left, left, machineOf, machineBytes}
 use Rattle.images.specs.Copied.{isEntry, copyInto, withLists, relisted, copied}
 use Rattle.running.specs.Wire.{answerLength}
 use Rattle.images.specs.Called.{Answered, answered, answerTo, renewed, called}
 
 -- from what a definition leaves to what a buffer holds
-pub left-kept : {r : ℕ} {image image′ : List ℕ} {x : Left} → left r image′ ≡ x → (TurnedDown (x .given) → x .image ≡ image) → TurnedDown r → image′ ≡ image
-left-kept e f t = ap (λ (y : Left). y .image) e ∙ f (subst TurnedDown (ap (λ (y : Left). y .given) e) t)
+pub left-kept : {r : ℕ} {image image′ : List ℕ} {x : Left} → left r image′ ≡ x → (NumberInUse (x .given) → x .image ≡ image) → NumberInUse r → image′ ≡ image
+left-kept e f t = ap (λ (y : Left). y .image) e ∙ f (subst NumberInUse (ap (λ (y : Left). y .given) e) t)
 
-pub answered-kept : {r : ℕ} {image image′ answer′ : List ℕ} {x : Answered} → answered r image′ answer′ ≡ x → (TurnedDown (x .given) → x .image ≡ image) → TurnedDown r → image′ ≡ image
-answered-kept e f t = ap (λ (y : Answered). y .image) e ∙ f (subst TurnedDown (ap (λ (y : Answered). y .given) e) t)
+pub answered-kept : {r : ℕ} {image image′ answer′ : List ℕ} {x : Answered} → answered r image′ answer′ ≡ x → (NumberInUse (x .given) → x .image ≡ image) → NumberInUse r → image′ ≡ image
+answered-kept e f t = ap (λ (y : Answered). y .image) e ∙ f (subst NumberInUse (ap (λ (y : Answered). y .given) e) t)
 
-pub new-kept : (image : List ℕ) → TurnedDown (renewed image .given) → renewed image .image ≡ image
+pub new-kept : (image : List ℕ) → NumberInUse (renewed image .given) → renewed image .image ≡ image
 unfolding renewed
 new-kept image t = go (eqb (length image) imageLength) t
   where
-    go : (b : Bool) → TurnedDown (cond b (left 0 (machineBytes newMachine)) (left badLine image) .given) → cond b (left 0 (machineBytes newMachine)) (left badLine image) .image ≡ image
+    go : (b : Bool) → NumberInUse (cond b (left 0 (machineBytes newMachine)) (left badLine image) .given) → cond b (left 0 (machineBytes newMachine)) (left badLine image) .image ≡ image
     go true u = absurd (omega (arith, u .0))
     go false u = refl
 
 module _ (image : List ℕ) (bytes : Bytes image) where
-  line-kept : isImage image ≡ true → (l : Line) → TurnedDown (answerTo image l .given) → answerTo image l .image ≡ image
+  line-kept : isImage image ≡ true → (l : Line) → NumberInUse (answerTo image l .given) → answerTo image l .image ≡ image
   line-kept e (Good c) t = ap machineBytes (call-unchanged (machineOf image) c t) ∙ bytes-kept image bytes e
   line-kept e Bad t = refl
 
-  pub call-kept : (call answer : List ℕ) → TurnedDown (called image call answer .given) → called image call answer .image ≡ image
+  pub call-kept : (call answer : List ℕ) → NumberInUse (called image call answer .given) → called image call answer .image ≡ image
   unfolding called
   call-kept call answer t = go (isImage image && long) refl t
     where
@@ -53,11 +54,11 @@ module _ (image : List ℕ) (bytes : Bytes image) where
       result : Bool → Answered
       result b = cond b (answerTo image (callFrom call)) (answered badLine image answer)
 
-      go : (b : Bool) → (isImage image && long) ≡ b → TurnedDown (result b .given) → result b .image ≡ image
+      go : (b : Bool) → (isImage image && long) ≡ b → NumberInUse (result b .given) → result b .image ≡ image
       go true e u = line-kept (and-left (isImage image) long e) (callFrom call) u
       go false e u = refl
 
-  pub copy-kept : (cnt lidx : ℕ) (entry : List ℕ) → TurnedDown (copied image cnt lidx entry .given) → copied image cnt lidx entry .image ≡ image
+  pub copy-kept : (cnt lidx : ℕ) (entry : List ℕ) → NumberInUse (copied image cnt lidx entry .given) → copied image cnt lidx entry .image ≡ image
   unfolding copied
   copy-kept cnt lidx entry t = go (isImage image && isEntry entry) refl t
     where
@@ -67,7 +68,7 @@ module _ (image : List ℕ) (bytes : Bytes image) where
       result : Bool → Left
       result b = cond b (relisted image r) (left badLine image)
 
-      go : (b : Bool) → (isImage image && isEntry entry) ≡ b → TurnedDown (result b .given) → result b .image ≡ image
+      go : (b : Bool) → (isImage image && isEntry entry) ≡ b → NumberInUse (result b .given) → result b .image ≡ image
       go true e u =
           ap (λ (l : List EvcRefP). machineBytes (withLists (machineOf image) l))
           (refused-answer 0 (r .answer) u (copy-refused-unchanged (refpOf image) cnt lidx (refpAt entry 0)))

@@ -6,6 +6,7 @@ use mathlib.Core.Bool.{true, cond, _&&_}
 use mathlib.Core.List.{List}
 use lib.Dec.{eqb}
 use lib.ListN.{length}
+use Rattle.def.specs.Refusals.{NumberInUse}
 use Rattle.line.specs.declared.Line.{Line}
 use Rattle.line.specs.declared.Line.the-variants.{Good, Bad}
 use Rattle.line.specs.Calls.{callFrom}
@@ -14,7 +15,7 @@ use Rattle.image.specs.Image.{imageLength, imageBytes, pmOf, refpOf, pocOf, isI
 use Rattle.machine.specs.declared.Stepped.{Stepped}
 use Rattle.machine.specs.Step.{newMachine, step, stepLine}
 use Rattle.running.specs.Wire.{answerLength, answerBytes}
-use Rattle.exchange.specs.Lent.{badLine, TurnedDown, Left, left, machineOf, machineBytes, Holds}
+use Rattle.exchange.specs.Lent.{badLine, Left, left, machineOf, machineBytes, Holds}
 
 -- `renew_image`: the new machine, whatever the bytes were. Another length is 18, and nothing is written.
 unfoldable pub renewed : List ℕ → Left
@@ -25,7 +26,7 @@ renewed image = cond (eqb (length image) imageLength) (left 0 (machineBytes newM
 pub record Renews (r : ℕ) (image image′ : List ℕ) : Type 0 where
   pub given : left r image′ ≡ renewed image
   pub holds : length image ≡ imageLength → Holds image′ newMachine
-  pub kept : TurnedDown r → image′ ≡ image
+  pub kept : NumberInUse r → image′ ≡ image
 
 -- What a function gives, and what stands in the lent buffers, where one for an answer is lent too.
 pub record Answered : Type 0 where
@@ -55,4 +56,4 @@ called image call answer =
 pub record Answers (r : ℕ) (image call answer image′ answer′ : List ℕ) : Type 0 where
   pub given : answered r image′ answer′ ≡ called image call answer
   pub holds : isImage image ≡ true → length answer ≡ answerLength → Holds image′ (stepLine (machineOf image) (callFrom call) .machine)
-  pub kept : TurnedDown r → image′ ≡ image
+  pub kept : NumberInUse r → image′ ≡ image

@@ -6,6 +6,7 @@ use mathlib.Core.Bool.{Bool, true, cond, _&&_}
 use mathlib.Core.List.{List}
 use lib.Dec.{eqb}
 use lib.ListN.{length}
+use Rattle.def.specs.Refusals.{NumberInUse}
 use Rattle.def.specs.declared.Answer.{Answer}
 use Rattle.def.specs.declared.EvcRefP.{EvcRefP}
 use Rattle.def.specs.declared.CopyResult.{CopyResult}
@@ -13,7 +14,7 @@ use Rattle.line.specs.Answers.{replyOf}
 use Rattle.image.specs.Image.{refpWidth, imageBytes, pmOf, refpAt, refpOf, pocOf, isFlag, isImage}
 use Rattle.refp.specs.Copy.{copy}
 use Rattle.machine.specs.declared.Machine.{Machine}
-use Rattle.exchange.specs.Lent.{badLine, TurnedDown, Left, left, machineOf, machineBytes, Holds}
+use Rattle.exchange.specs.Lent.{badLine, Left, left, machineOf, machineBytes, Holds}
 
 -- A list entry as bytes: 90 of them, the first a flag.
 abbrev pub isEntry : List ℕ → Bool
@@ -42,4 +43,4 @@ copied image cnt lidx entry = cond (isImage image && isEntry entry) (relisted im
 pub record Copies (r : ℕ) (image : List ℕ) (cnt lidx : ℕ) (entry image′ : List ℕ) : Type 0 where
   pub given : left r image′ ≡ copied image cnt lidx entry
   pub holds : isImage image ≡ true → isEntry entry ≡ true → Holds image′ (withLists (machineOf image) (copyInto image cnt lidx entry .refp))
-  pub kept : TurnedDown r → image′ ≡ image
+  pub kept : NumberInUse r → image′ ≡ image

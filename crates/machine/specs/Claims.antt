@@ -1,19 +1,19 @@
 -- What holds of every call and every line: one that is turned down leaves state, lists and record as they were; a whole state stays whole;
 -- so refusal 7 never follows in a run from the new machine. The proofs stand in proofs/EveryCall.antt.
 -- Assumes nothing.
-use Prim.Native.Nat.{_≤_}
 use mathlib.Core.Path.{_≡_}
 use mathlib.Core.Bool.{true}
 use lib.ListN.{length}
+use Rattle.def.specs.Refusals.{NumberInUse}
 use Rattle.def.specs.State.{slots}
 use Rattle.whole.specs.Whole.{whole}
 use Rattle.line.specs.declared.{Call.Call, Line.Line, Reply.Reply}
 use Rattle.machine.specs.declared.Machine.{Machine}
 use Rattle.machine.specs.Step.{newMachine, step, stepLine}
 
--- A status from 1 to 18.
+-- A status that is a refusal's number.
 abbrev pub TurnedDown : Reply → Type 0
-TurnedDown r = (1 ≤ r .status) × (r .status ≤ 18)
+TurnedDown r = NumberInUse (r .status)
 
 abbrev pub CallUnchanged : Type 0
 CallUnchanged = (m : Machine) (c : Call) → TurnedDown (step m c .reply) → step m c .machine ≡ m

@@ -20,16 +20,7 @@ use Rattle.machine.specs.declared.{Machine.Machine, Scalars.Scalars, Made.Made}
 use Rattle.machine.specs.Step.{step, stepLine}
 use Rattle.machine.specs.Running.{machineIn, Makes}
 use Rattle.machine.specs.Claims.{TurnedDown}
-use Rattle.running.specs.Slices.{Slices, slices, scalarsAt, machineAt, sized, replyTo, isRefusal, CallLeaves, Leaves, OnSlices}
-
--- ---- a status is tested
-
-pub refused : (r : Reply) → isRefusal (r .status) ≡ true → TurnedDown r
-refused r e =
-    (leb-true 1 (r .status) (and-left (leb 1 (r .status)) (leb (r .status) 18) e), leb-true (r .status) 18 (and-right (leb 1 (r .status)) (leb (r .status) 18) e))
-
-pub not-refused : (r : Reply) → isRefusal (r .status) ≡ false → TurnedDown r → ⊥
-not-refused r e t = true≢false (sym (and-both (le-leb 1 (r .status) (t .0)) (le-leb (r .status) 18 (t .1))) ∙ e)
+use Rattle.running.specs.Slices.{Slices, slices, scalarsAt, machineAt, sized, replyTo, CallLeaves, Leaves, OnSlices}
 
 -- ---- a call on slices of the right sizes
 

@@ -3,7 +3,7 @@
 use mathlib.Core.Path.{_≡_, refl, sym, ap, _∙_, subst}
 use mathlib.Core.Bool.{Bool, true, false, _&&_, true≢false}
 use mathlib.Core.List.{List}
-use Prim.Native.Nat.{ℕ, _+_, _*_, _/_, _%_, _<_, _≤_}
+use Prim.Native.Nat.{ℕ, _+_, _*_, _/_, _%_, _<_}
 use native.Mathlib.Omega.{arith}
 use lib.Dec.{eqb, ltb}
 use lib.ListN.{length}
@@ -16,6 +16,7 @@ use Rattle.line.specs.declared.Reply.{Reply}
 use Rattle.line.specs.Answers.{replyOf}
 use Rattle.refp.specs.Copy.{copy}
 use Rattle.refp.specs.Running.{entryWith, CopyCame}
+use Rattle.machine.specs.Claims.{TurnedDown}
 use Rattle.machine.proofs.EveryCall.{refused-answer}
 use Rattle.running.specs.OneEntry.{entryGiven, fits, Placed}
 
@@ -62,6 +63,6 @@ module _ (rows numbers : List ℕ) (cnt lidx present buf poc : ℕ) where
         gives = rw e (ap (λ (q : Reply). q .status) replied ∙ ap (λ (a : Answer). replyOf 0 a .status) (comes .answers));
         lists-are = λ _. comes .lists-are;
         pictures-stay = comes .pictures-stay;
-        refused-leaves = λ t. refused-answer 0 answer (subst (λ (q : Reply). (1 ≤ q .status) × (q .status ≤ 18)) replied t) (comes .refused-leaves);
+        refused-leaves = λ t. refused-answer 0 answer (subst TurnedDown replied t) (comes .refused-leaves);
         rows-long = comes .rows-long ∙ sym (fit .0);
       }

@@ -1,11 +1,12 @@
 -- The copy of one entry into the lists of the running machine.
 -- Assumes nothing.
-use Prim.Native.Nat.{ℕ, _≤_}
+use Prim.Native.Nat.{ℕ}
 use mathlib.Core.Path.{_≡_}
 use mathlib.Core.Bool.{Bool, true, cond, _&&_}
 use mathlib.Core.List.{List}
 use lib.Dec.{eqb, ltb}
 use lib.ListN.{length}
+use Rattle.def.specs.Refusals.{NumberInUse}
 use Rattle.def.specs.State.{listPlaces}
 use Rattle.def.specs.declared.{EvcRefP.EvcRefP, CopyResult.CopyResult}
 use Rattle.keys.specs.Keys.{rowsLength, listsIn}
@@ -20,10 +21,10 @@ entryGiven present buf poc numbers = record { present = eqb present 1; buf = buf
 abbrev pub fits : List ℕ → ℕ → List ℕ → Bool
 fits rows present numbers = (eqb (length rows) rowsLength && eqb (length numbers) listPlaces) && ltb present 2
 
--- Where they fit the copy's own result, else 18; the pictures' list numbers stay, and a number from 1 to 18 has written nothing.
+-- Where they fit the copy's own result, else 18; the pictures' list numbers stay, and a refusal's number has written nothing.
 pub record Placed (r : ℕ) (fit : Bool) (rows after : List ℕ) (wanted : CopyResult) : Type 0 where
   pub gives : r ≡ cond fit (replyOf 0 (wanted .answer) .status) 18
   pub lists-are : fit ≡ true → listsIn after ≡ wanted .refp
   pub pictures-stay : PicturesStay rows after
-  pub refused-leaves : (1 ≤ r) × (r ≤ 18) → after ≡ rows
+  pub refused-leaves : NumberInUse r → after ≡ rows
   pub rows-long : length after ≡ length rows

@@ -2,9 +2,8 @@
 -- Assumes nothing.
 use Prim.Native.Nat.{ℕ, _+_, _*_, _^_}
 use mathlib.Core.Path.{_≡_}
-use mathlib.Core.Bool.{Bool, true, cond, _&&_}
+use mathlib.Core.Bool.{true, cond}
 use mathlib.Core.List.{List}
-use lib.Dec.{leb}
 use lib.ListN.{length, replicate}
 use Rattle.def.specs.State.{slots}
 use Rattle.keys.specs.Keys.{rowsLength}
@@ -24,10 +23,6 @@ replyTo s line = cond (sized s) (stepLine (machineAt s) line .reply) badLineRepl
 -- A reply as one number: the status in bits 0 to 7, the buffer number in bits 8 to 15, the value in bits 32 to 63.
 abbrev pub answerWord : Reply → ℕ
 answerWord r = r .value * 2 ^ 32 + r .buf * 256 + r .status
-
--- A status from 1 to 18 turns the line down.
-abbrev pub isRefusal : ℕ → Bool
-isRefusal status = leb 1 status && leb status 18
 
 -- A call on slices of the right sizes; one that is turned down leaves every number as it was.
 pub record CallLeaves (r : Reply) (call : Call) (before after : Slices) : Type 0 where

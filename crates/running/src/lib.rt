@@ -5,6 +5,7 @@ pub mod blank;
 pub mod one_entry;
 pub mod wire;
 
+use def::is_refusal_number;
 use keys::ROWS;
 use keys::SLOTS;
 use line::Call;
@@ -18,7 +19,7 @@ ghost use lib.ListN.{length};
 ghost use Rattle.keys.specs.Keys.{Sized};
 ghost use Rattle.line.specs.Answers.{badLineReply};
 ghost use Rattle.registers.specs.Registers.{registersLength};
-ghost use Rattle.running.specs.Slices.{slices, sized, replyTo, answerWord, isRefusal, CallLeaves, Leaves, OnSlices, putLine};
+ghost use Rattle.running.specs.Slices.{slices, sized, replyTo, answerWord, CallLeaves, Leaves, OnSlices, putLine};
 
 pub const BAD_LINE: u8 = 18;
 
@@ -30,12 +31,6 @@ pub fn is_sized(keys: &[u64], rows: &[u32], registers: &[u32]) -> bool
     ensures { λ r. ⌜ r ≡ sized (slices (now (keys .entry)) (now (rows .entry)) (now (registers .entry))) ⌝ }
 {
     (keys.len() == SLOTS) & (rows.len() == ROWS) & (registers.len() == REGISTERS)
-}
-
-fn is_refusal(status: u8) -> bool
-    ensures { λ r. ⌜ r ≡ isRefusal status ⌝ }
-{
-    (1 <= status) & (status <= BAD_LINE)
 }
 
 pub fn bad_line_reply() -> Reply
@@ -62,7 +57,7 @@ fn call_on(keys: &mut [u64], rows: &mut [u32], registers: &mut [u32], call: Call
     let before = Scalars { rest, poc };
     let made = checked_call(keys, rows, before, call);
     let reply = made.reply;
-    if is_refusal(reply.status) {
+    if is_refusal_number(reply.status) {
         return reply;
     }
     let after = made.scalars;

@@ -43,17 +43,6 @@ on-record m m′ OutPic r e = absurd (true≢false r)
 on-record m m′ (RefpInit slice poc layer intra limit) r e = absurd (true≢false r)
 on-record m m′ (PocDerivation L t) r e = record { replies = rw e; machine-is = rw e }
 
--- ---- the test of the status
-
-abbrev isRefusal : ℕ → Bool
-isRefusal n = leb 1 n && leb n 18
-
-pub told-down : (n : ℕ) → isRefusal n ≡ true → (1 ≤ n) × (n ≤ 18)
-told-down n e = (leb-true 1 n (and-left (leb 1 n) (leb n 18) e), leb-true n 18 (and-right (leb 1 n) (leb n 18) e))
-
-pub told-accepted : (n : ℕ) → isRefusal n ≡ false → (1 ≤ n) × (n ≤ 18) → ⊥
-told-accepted n e t = true≢false (sym (and-both (le-leb 1 n (t .0)) (le-leb n 18 (t .1))) ∙ e)
-
 -- ---- a machine taken apart
 
 module _ {m : Machine} {keys rows : List ℕ} {s : Scalars} (taken : TakenMachine m keys rows s) where

@@ -1,9 +1,9 @@
 // One call on a machine by value, for the image that the library lends: the machine is taken apart, the call goes the one road of
 // `machine::calls`, and the machine is put together again.
+use def::is_refusal_number;
 use keys::ROWS;
 use keys::SLOTS;
 use line::Call;
-use line::Reply;
 use machine::Machine;
 use machine::Stepped;
 use machine::calls::checked_call;
@@ -11,20 +11,9 @@ use machine::calls::reads_state;
 use parts::put_machine;
 use parts::take_machine;
 ghost use mathlib.Core.Path.{_≡_};
-ghost use mathlib.Core.Bool.{_&&_};
-ghost use lib.Dec.{leb};
 ghost use Rattle.machine.specs.Step.{step};
 
 pub mod parts;
-
-// The numbers of refusals are 1 to 18.
-const LAST_REFUSAL: u8 = 18;
-
-fn is_turned_down(reply: Reply) -> bool
-    ensures { λ r. ⌜ r ≡ (leb 1 (reply .status) && leb (reply .status) 18) ⌝ }
-{
-    (1 <= reply.status) & (reply.status <= LAST_REFUSAL)
-}
 
 // A derivation reads no state, and where that is not whole the arrays cannot say it: it stays as it came, as after a call that is turned down.
 pub fn step(m: Machine, call: Call) -> Stepped
@@ -35,7 +24,7 @@ pub fn step(m: Machine, call: Call) -> Stepped
     let before = take_machine(m, &mut keys, &mut rows);
     let made = checked_call(&mut keys, &mut rows, before, call);
     let reply = made.reply;
-    if is_turned_down(reply) {
+    if is_refusal_number(reply.status) {
         return Stepped { reply, machine: m };
     }
     let scalars = made.scalars;

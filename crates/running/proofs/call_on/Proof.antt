@@ -2,7 +2,8 @@
 -- Assumes nothing.
 use mathlib.Core.Path.{_≡_, sym, _∙_}
 use Rattle.running.specs.Slices.{scalarsAt}
-use Rattle.running.proofs.Answering.{refused, not-refused, scalars-are, call-refused, call-made}
+use Rattle.def.proofs.Refusals.{in-use, not-in-use}
+use Rattle.running.proofs.Answering.{scalars-are, call-refused, call-made}
 use borrow.Author.Needs.{needs}
 use Rattle.running.proofs.call_on.Statement.{statement}
 use Rattle.running.proofs.call_on.Tie as tie
@@ -23,8 +24,8 @@ poc-of-requires c κs = search needs
 checked-call-requires : tie.Need-checked-call-requires
 checked-call-requires c κs = search needs
 
-is-refusal-requires : tie.Need-is-refusal-requires
-is-refusal-requires c κs = search needs
+is-refusal-number-requires : tie.Need-is-refusal-number-requires
+is-refusal-number-requires c κs = search needs
 
 same-length : tie.Need-same-length
 same-length c = search needs
@@ -39,7 +40,7 @@ returns : tie.Need-returns
 returns c =
     let tested = c .before in
     let called = tested .before .before .before .before .before .before in
-    call-refused _ _ (scalars-read (called .before .before .before)) (called .checked-call .ensures) (refused (called .checked-call .result .reply) (sym (tested .is-refusal .ensures) ∙ c .if1 .taken))
+    call-refused _ _ (scalars-read (called .before .before .before)) (called .checked-call .ensures) (in-use (called .checked-call .result .reply .status) (sym (tested .is-refusal-number .ensures) ∙ c .if1 .taken))
 
 store-requires : tie.Need-store-requires
 store-requires c κs =
@@ -61,7 +62,7 @@ returns-2 c =
     let left = stored .before .before .before .before .before in
     let tested = left .before in
     let called = tested .before .before .before .before .before .before in
-    call-made _ _ (scalars-read (called .before .before .before)) (called .checked-call .ensures) (not-refused (called .checked-call .result .reply) (sym (tested .is-refusal .ensures) ∙ left .if1 .left)) (stored .store .ensures .1 .0) (stored .store .ensures .1 .1)
+    call-made _ _ (scalars-read (called .before .before .before)) (called .checked-call .ensures) (not-in-use (called .checked-call .result .reply .status) (sym (tested .is-refusal-number .ensures) ∙ left .if1 .left)) (stored .store .ensures .1 .0) (stored .store .ensures .1 .1)
 
 pub call-on-spec : {M : Type 1} → statement M
 call-on-spec =
@@ -70,7 +71,7 @@ call-on-spec =
     rest-of-requires
     poc-of-requires
     checked-call-requires
-    is-refusal-requires
+    is-refusal-number-requires
     same-length
     same-length-2
     same-length-3

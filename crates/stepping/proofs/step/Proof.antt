@@ -1,6 +1,7 @@
 -- `stepping::step` meets its contract: by what became of the call. Assumes nothing.
 use mathlib.Core.Path.{sym, _∙_}
-use Rattle.stepping.proofs.Stepping.{told-down, told-accepted, turned-down, derived, runs, accepted-is}
+use Rattle.def.proofs.Refusals.{in-use, not-in-use}
+use Rattle.stepping.proofs.Stepping.{turned-down, derived, runs, accepted-is}
 use borrow.Author.Needs.{needs}
 use Rattle.stepping.proofs.step.Statement.{statement}
 use Rattle.stepping.proofs.step.Tie as tie
@@ -23,8 +24,8 @@ slice-aggregate-checked-call-2 c = search needs
 checked-call-requires : tie.Need-checked-call-requires
 checked-call-requires c κs = search needs
 
-is-turned-down-requires : tie.Need-is-turned-down-requires
-is-turned-down-requires c κs = search needs
+is-refusal-number-requires : tie.Need-is-refusal-number-requires
+is-refusal-number-requires c κs = search needs
 
 returns : tie.Need-returns
 returns c =
@@ -32,7 +33,7 @@ returns c =
     let at-call = told .before .before .before .before in
     let at-take = at-call .before .before .before .before .before in
     let s = at-take .before .before .before in
-    turned-down (at-take .take-machine .ensures) (s .args .call) (at-call .checked-call .ensures) (told-down _ (sym (told .is-turned-down .ensures) ∙ c .if1 .taken))
+    turned-down (at-take .take-machine .ensures) (s .args .call) (at-call .checked-call .ensures) (in-use _ (sym (told .is-refusal-number .ensures) ∙ c .if1 .taken))
 
 reads-state-requires : tie.Need-reads-state-requires
 reads-state-requires c κs = search needs
@@ -53,7 +54,7 @@ put-machine-requires c κs =
     let at-take = at-call .before .before .before .before .before in
     let s = at-take .before .before .before in
     runs (at-take .take-machine .ensures) (s .args .call) (at-call .checked-call .ensures) (sym (reads .reads-state .ensures) ∙ at-read .if2 .taken)
-    (told-accepted _ (sym (told .is-turned-down .ensures) ∙ at-else .if1 .left))
+    (not-in-use _ (sym (told .is-refusal-number .ensures) ∙ at-else .if1 .left))
 
 returns-2 : tie.Need-returns-2
 returns-2 c =
@@ -66,7 +67,7 @@ returns-2 c =
     let s = at-take .before .before .before in
     rw (c .put-machine .ensures)
     (accepted-is (at-take .take-machine .ensures) (s .args .call) (at-call .checked-call .ensures) (sym (reads .reads-state .ensures) ∙ at-read .if2 .taken)
-    (told-accepted _ (sym (told .is-turned-down .ensures) ∙ at-else .if1 .left)))
+    (not-in-use _ (sym (told .is-refusal-number .ensures) ∙ at-else .if1 .left)))
 
 returns-3 : tie.Need-returns-3
 returns-3 c =
@@ -89,7 +90,7 @@ step-spec =
     slice-aggregate-checked-call
     slice-aggregate-checked-call-2
     checked-call-requires
-    is-turned-down-requires
+    is-refusal-number-requires
     returns
     reads-state-requires
     slice-aggregate-put-machine
