@@ -21,7 +21,7 @@ use Rattle.machine.specs.Step.{newMachine}
 use Rattle.machine.proofs.EveryCall.{refused-answer, call-unchanged}
 use Rattle.exchange.specs.Lent.{badLine, Left, left, machineOf, machineBytes}
 use Rattle.images.specs.Copied.{isEntry, copyInto, withLists, relisted, copied}
-use Rattle.running.specs.Wire.{answerLength}
+use Rattle.wire.specs.Wire.{answerLength}
 use Rattle.images.specs.Called.{Answered, answered, answerTo, renewed, called}
 
 -- from what a definition leaves to what a buffer holds

@@ -14,7 +14,7 @@ use Rattle.line.specs.Answers.{badLineReply}
 use Rattle.image.specs.Image.{imageLength, imageBytes, pmOf, refpOf, pocOf, isImage}
 use Rattle.machine.specs.declared.Stepped.{Stepped}
 use Rattle.machine.specs.Step.{newMachine, step, stepLine}
-use Rattle.running.specs.Wire.{answerLength, answerBytes}
+use Rattle.wire.specs.Wire.{answerLength, answerBytes}
 use Rattle.exchange.specs.Lent.{badLine, Left, left, machineOf, machineBytes, Holds}
 
 -- `renew_image`: the new machine, whatever the bytes were. Another length is 18, and nothing is written.

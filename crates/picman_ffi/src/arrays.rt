@@ -1,19 +1,24 @@
 // The running machine for C: three slices that the caller owns, keys, rows and registers, on which calls work in place, with any bits in them.
-// One function for each call, with plain numbers, and one for the bytes of a call line; all are thin over crate `running`.
-use line::Call;
-use line::Line;
-use running::answer_on;
-use running::blank::renew;
-use running::one_entry::place_entry;
-use running::put_line;
-use running::wire::call_bytes;
+// One function for each call, with plain numbers, and one for the bytes of a call line; all are thin over crates `calling`, `renewing`, `one_entry` and `wire`.
+use calling::derive_on;
+use calling::get_on;
+use calling::init_on;
+use calling::lists_on;
+use calling::out_on;
+use calling::put_on;
+use one_entry::place_entry;
+use renewing::renew;
+use wire::call_bytes;
 ghost use Rattle.keys.specs.Keys.{listsIn};
 ghost use Rattle.line.specs.declared.Call.the-variants.{Init, GetEmptyPic, OutPic, RefpInit, PocDerivation};
 ghost use Rattle.line.specs.declared.Line.the-variants.{Good};
 ghost use Rattle.refp.specs.Copy.{copy};
-ghost use Rattle.running.specs.Slices.{slices, putLine, OnSlices, Renewed};
-ghost use Rattle.running.specs.Wire.{Wired};
-ghost use Rattle.running.specs.OneEntry.{entryGiven, fits, Placed};
+ghost use Rattle.running.specs.Slices.{slices};
+ghost use Rattle.answering.specs.Answered.{OnSlices};
+ghost use Rattle.calling.specs.PutLine.{putLine};
+ghost use Rattle.renewing.specs.Renewed.{Renewed};
+ghost use Rattle.wire.specs.Wire.{Wired};
+ghost use Rattle.one_entry.specs.OneEntry.{entryGiven, fits, Placed};
 
 // Writes the new machine, all zero, whatever stood there: 0.
 #[no_mangle]
@@ -44,11 +49,7 @@ pub extern "C" fn picman_machine_init(
         let after = slices (now (keys .exit)) (now (rows .exit)) (now (registers .exit)) in
         ⌜ OnSlices r (Good (Init «max_pb_size» «max_num_ref_pics»)) before after ⌝ }
 {
-    let call = Call::Init {
-        max_pb_size,
-        max_num_ref_pics,
-    };
-    answer_on(keys, rows, registers, Line::Good(call))
+    init_on(keys, rows, registers, max_pb_size, max_num_ref_pics)
 }
 
 // Leases an empty picture.
@@ -63,7 +64,7 @@ pub extern "C" fn picman_machine_get(
         let after = slices (now (keys .exit)) (now (rows .exit)) (now (registers .exit)) in
         ⌜ OnSlices r (Good GetEmptyPic) before after ⌝ }
 {
-    answer_on(keys, rows, registers, Line::Good(Call::GetEmptyPic))
+    get_on(keys, rows, registers)
 }
 
 // Puts the leased picture into the store; flags above 15 give 18.
@@ -82,11 +83,14 @@ pub extern "C" fn picman_machine_put(
         let after = slices (now (keys .exit)) (now (rows .exit)) (now (registers .exit)) in
         ⌜ OnSlices r (putLine flags poc «temporal_id» «ref_pic_gap_length») before after ⌝ }
 {
-    answer_on(
+    put_on(
         keys,
         rows,
         registers,
-        put_line(flags, poc, temporal_id, ref_pic_gap_length),
+        flags,
+        poc,
+        temporal_id,
+        ref_pic_gap_length,
     )
 }
 
@@ -102,7 +106,7 @@ pub extern "C" fn picman_machine_out(
         let after = slices (now (keys .exit)) (now (rows .exit)) (now (registers .exit)) in
         ⌜ OnSlices r (Good OutPic) before after ⌝ }
 {
-    answer_on(keys, rows, registers, Line::Good(Call::OutPic))
+    out_on(keys, rows, registers)
 }
 
 // Builds the reference lists of a slice.
@@ -122,14 +126,16 @@ pub extern "C" fn picman_machine_lists(
         let after = slices (now (keys .exit)) (now (rows .exit)) (now (registers .exit)) in
         ⌜ OnSlices r (Good (RefpInit «slice_type» poc «layer_id» «last_intra» «max_num_ref_pics»)) before after ⌝ }
 {
-    let call = Call::RefpInit {
+    lists_on(
+        keys,
+        rows,
+        registers,
         slice_type,
         poc,
         layer_id,
         last_intra,
         max_num_ref_pics,
-    };
-    answer_on(keys, rows, registers, Line::Good(call))
+    )
 }
 
 // Derives a picture number. It reads the record alone, and so works where the state is not whole too.
@@ -146,11 +152,7 @@ pub extern "C" fn picman_machine_derive(
         let after = slices (now (keys .exit)) (now (rows .exit)) (now (registers .exit)) in
         ⌜ OnSlices r (Good (PocDerivation «log2_sub_gop_length» tid)) before after ⌝ }
 {
-    let call = Call::PocDerivation {
-        log2_sub_gop_length,
-        tid,
-    };
-    answer_on(keys, rows, registers, Line::Good(call))
+    derive_on(keys, rows, registers, log2_sub_gop_length, tid)
 }
 
 // Writes an entry at place `cnt` of list `lidx`: 0, 13 or 14, or 18 where a size or the flag does not fit.

@@ -20,7 +20,7 @@ use Rattle.machine.specs.declared.{Machine.Machine, Scalars.Scalars, Made.Made}
 use Rattle.machine.specs.Step.{step, stepLine}
 use Rattle.machine.specs.Running.{machineIn, Makes}
 use Rattle.machine.specs.Claims.{TurnedDown}
-use Rattle.running.specs.Slices.{Slices, slices, scalarsAt, machineAt, sized, replyTo, CallLeaves, Leaves, OnSlices}
+use Rattle.running.specs.Slices.{Slices, slices, scalarsAt, machineAt, sized, replyTo, CallLeaves, Leaves}
 
 -- ---- a call on slices of the right sizes
 
@@ -62,16 +62,6 @@ module _ {made : Made} {s : Scalars} (call : Call) {keys rows keys′ rows′ : 
 
 -- ---- any line on any slices
 
-pub sized-long : (s : Slices) → sized s ≡ true → Sized (s .keys) (s .rows) × (length (s .registers) ≡ registersLength)
-sized-long s e =
-    let both = and-left (eqb (length (s .keys)) slots && eqb (length (s .rows)) rowsLength) (eqb (length (s .registers)) registersLength) e in (
-      record {
-        slots-long = eqb-true (length (s .keys)) slots (and-left (eqb (length (s .keys)) slots) (eqb (length (s .rows)) rowsLength) both);
-        rows-long = eqb-true (length (s .rows)) rowsLength (and-right (eqb (length (s .keys)) slots) (eqb (length (s .rows)) rowsLength) both);
-      },
-      eqb-true (length (s .registers)) registersLength (and-right (eqb (length (s .keys)) slots && eqb (length (s .rows)) rowsLength) (eqb (length (s .registers)) registersLength) e),
-    )
-
 -- What `reply_on` promises.
 abbrev pub Replied : Reply → Line → Slices → Slices → Type 0
 Replied r line before after = (r ≡ replyTo before line) × Leaves line before after
@@ -107,6 +97,3 @@ good-line {r} {call} before after e c keys rows registers =
 -- by what the line is
 pub by-line : {r : Reply} {line told : Line} {before after : Slices} → line ≡ told → Replied r told before after → Replied r line before after
 by-line {r} {line} {told} {before} {after} e p = subst (λ (l : Line). Replied r l before after) (sym e) p
-
-pub on-line : {r : ℕ} {line told : Line} {before after : Slices} → line ≡ told → OnSlices r line before after → OnSlices r told before after
-on-line {r} {line} {told} {before} {after} e p = subst (λ (l : Line). OnSlices r l before after) e p

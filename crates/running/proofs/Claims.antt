@@ -1,20 +1,15 @@
 -- The claims of specs/Claims.antt.
 -- Assumes nothing.
 use mathlib.Core.Path.{refl, sym}
-use lib.ListN.{replicate}
-use Rattle.keys.specs.Keys.{rowsLength}
 use Rattle.keys.specs.declared.Called.{Called}
 use Rattle.def.specs.declared.{Answer.Answer, Refusal.Refusal}
 use Rattle.machine.specs.declared.Scalars.{Scalars}
 use Rattle.machine.specs.Step.{stepLine}
 use Rattle.machine.specs.Running.{callByte, madeOf}
 use Rattle.machine.proofs.Running as running
-use Rattle.running.proofs.Answering.{sized-long}
+use Rattle.sizing.proofs.Sized.{sized-long}
 use Rattle.running.specs.Slices.{scalarsAt, replyTo}
-use Rattle.running.specs.Claims.{NewMachine, WrongSize, NotWhole}
-
-pub new-machine : NewMachine
-new-machine = running.new-machine (replicate rowsLength 0) refl
+use Rattle.running.specs.Claims.{WrongSize, NotWhole}
 
 pub wrong-size : WrongSize
 unfolding replyTo

@@ -1,5 +1,2 @@
 pub mod Answering
-pub mod Clearing
-pub mod Wiring
-pub mod Entering
 pub mod Claims

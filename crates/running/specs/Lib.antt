@@ -1,4 +1,2 @@
 pub mod Slices
-pub mod Wire
-pub mod OneEntry
 pub mod Claims

@@ -1,6 +1,6 @@
 -- `images::answer_bad` meets its contract. Assumes nothing.
 use mathlib.Core.Path.{refl, ap, _∙_}
-use Rattle.running.specs.Wire.{answerBytes}
+use Rattle.wire.specs.Wire.{answerBytes}
 use borrow.Author.Needs.{needs}
 use Rattle.images.proofs.answer_bad.Statement.{statement}
 use Rattle.images.proofs.answer_bad.Tie as tie

@@ -12,7 +12,7 @@ use Rattle.line.specs.Calls.{callFrom}
 use Rattle.image.specs.Image.{Bytes, isImage}
 use Rattle.machine.specs.declared.Machine.{Machine}
 use Rattle.machine.specs.Step.{stepLine}
-use Rattle.running.specs.Wire.{answerLength}
+use Rattle.wire.specs.Wire.{answerLength}
 use Rattle.exchange.specs.Lent.{machineOf, Holds}
 use Rattle.images.specs.Called.{answered, answerTo, called, Answers}
 use Rattle.image.specs.BytesKept.{image-long}

@@ -3,7 +3,8 @@ use mathlib.Core.Path.{_≡_, sym, _∙_}
 use mathlib.Core.Bool.{true}
 use borrow.Author.Tests.{not-true, not-false}
 use Rattle.running.specs.Slices.{Slices, slices, sized}
-use Rattle.running.proofs.Answering.{sized-long, wrong-size, bad-line, good-line, by-line}
+use Rattle.sizing.proofs.Sized.{sized-long}
+use Rattle.running.proofs.Answering.{wrong-size, bad-line, good-line, by-line}
 use borrow.Author.Needs.{needs}
 use Rattle.running.proofs.reply_on.Statement.{statement}
 use Rattle.running.proofs.reply_on.Tie as tie

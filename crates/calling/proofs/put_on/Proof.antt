@@ -1,0 +1,30 @@
+-- `calling::put_on` meets its contract: the line is the put's. Assumes nothing.
+use Rattle.answering.proofs.OnLine.{on-line}
+use borrow.Author.Needs.{needs}
+use Rattle.calling.proofs.put_on.Statement.{statement}
+use Rattle.calling.proofs.put_on.Tie as tie
+
+put-line-requires : tie.Need-put-line-requires
+put-line-requires c κs = search needs
+
+answer-on-requires : tie.Need-answer-on-requires
+answer-on-requires c κs = search needs
+
+same-length : tie.Need-same-length
+same-length c = search needs
+
+same-length-2 : tie.Need-same-length-2
+same-length-2 c = search needs
+
+same-length-3 : tie.Need-same-length-3
+same-length-3 c = search needs
+
+returns : tie.Need-returns
+returns c =
+    let answered = c .before .before .before .before .before .before in
+    on-line (answered .before .put-line .ensures) (answered .answer-on .ensures)
+
+pub put-on-spec : {M : Type 1} → statement M
+put-on-spec =
+    tie.close
+    (tie.spec put-line-requires answer-on-requires same-length same-length-2 same-length-3 returns)

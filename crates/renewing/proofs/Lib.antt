@@ -1,0 +1,2 @@
+mod Clearing
+pub mod Claims

@@ -1,0 +1,38 @@
+-- `wire::write_answer` meets its contract: eight bytes pasted over eight are what stands there then.
+-- Assumes nothing.
+use mathlib.Core.Path.{_∙_, _≡_}
+use mathlib.Core.List.{List, append-nil}
+use Prim.Native.Nat.{ℕ, _+_}
+use native.Mathlib.Omega.{arith}
+use lib.ListN.{length, drop-of-length-le}
+use lib.Seq.{take-all, paste}
+use borrow.Author.Needs.{needs}
+use Rattle.wire.proofs.write_answer.Statement.{statement}
+use Rattle.wire.proofs.write_answer.Tie as tie
+
+-- as many elements as there are, pasted from the start
+paste-all : (n : ℕ) (d s : List ℕ) → length d ≡ n → length s ≡ n → paste d 0 s n ≡ s
+paste-all n d s e f = rw (take-all n s (omega arith), drop-of-length-le d {i = 0 + n} (omega arith)) (append-nil s)
+
+answer-bytes-requires : tie.Need-answer-bytes-requires
+answer-bytes-requires c κs = search needs
+
+slice-aggregate-paste : tie.Need-slice-aggregate-paste
+slice-aggregate-paste c = search needs
+
+paste-requires : tie.Need-paste-requires
+paste-requires c κs = search needs
+
+same-length : tie.Need-same-length
+same-length c = search needs
+
+returns : tie.Need-returns
+returns c =
+    let pasted = c .before .before in
+    let made = pasted .before .before .before in
+    pasted .paste .ensures ∙ paste-all 8 (made .before .before .args .answer .now) (made .answer-bytes .result) (made .before .before .pre) (search needs) ∙ made .answer-bytes .ensures
+
+pub write-answer-spec : {M : Type 1} → statement M
+write-answer-spec =
+    tie.close
+    (tie.spec answer-bytes-requires slice-aggregate-paste paste-requires same-length returns)
