@@ -4,14 +4,11 @@
 pub mod arrays;
 pub mod exchanged;
 
-use tbl::SliceDepth;
-use tbl::slice_depth;
-use tbl::slice_depth_p;
 ghost use mathlib.Core.Path.{_≡_};
 ghost use Rattle.tbl.specs.DepthRows.{sliceDepth, sliceDepthP};
 ghost use Rattle.images.specs.Called.{Renews, Answers};
 ghost use Rattle.images.specs.Copied.{Copies};
-ghost use Rattle.picman_ffi.specs.Depths.{depthOrZero};
+ghost use Rattle.depths.specs.Depths.{depthOrZero};
 
 // Writes the new machine, whatever the image held: 0.
 #[no_mangle]
@@ -37,21 +34,12 @@ pub extern "C" fn picman_copy_refp(image: &mut [u8], cnt: u64, lidx: u64, entry:
     images::copy_image(image, cnt, lidx, entry)
 }
 
-fn depth_or_zero(depth: SliceDepth) -> u8
-    ensures { λ r. ⌜ r ≡ depthOrZero depth ⌝ }
-{
-    match depth {
-        SliceDepth::Depth(d) => d,
-        SliceDepth::Refused(_) => 0,
-    }
-}
-
 // The depth at a position of a group with a hierarchy of B slices.
 #[no_mangle]
 pub extern "C" fn picman_slice_depth(gop_size: u64, position: u64) -> u8
     ensures { λ r. ⌜ r ≡ depthOrZero (sliceDepth «gop_size» position) ⌝ }
 {
-    depth_or_zero(slice_depth(gop_size, position))
+    depths::depth_or_zero(gop_size, position)
 }
 
 // The depth at a position of a group of P slices.
@@ -59,5 +47,5 @@ pub extern "C" fn picman_slice_depth(gop_size: u64, position: u64) -> u8
 pub extern "C" fn picman_slice_depth_p(gop_size: u64, position: u64) -> u8
     ensures { λ r. ⌜ r ≡ depthOrZero (sliceDepthP «gop_size» position) ⌝ }
 {
-    depth_or_zero(slice_depth_p(gop_size, position))
+    depths::depth_p_or_zero(gop_size, position)
 }

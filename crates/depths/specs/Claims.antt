@@ -5,7 +5,7 @@ use mathlib.Core.Path.{_≡_}
 use Rattle.def.specs.declared.Refusal.{Refusal}
 use Rattle.tbl.specs.DepthRows.{sliceDepth, sliceDepthP}
 use Rattle.tbl.specs.declared.SliceDepth.{SliceDepth}
-use Rattle.picman_ffi.specs.Depths.{depthOrZero}
+use Rattle.depths.specs.Depths.{depthOrZero}
 
 abbrev pub DepthZero : Type 0
 DepthZero = (n j : ℕ) → depthOrZero (sliceDepth n j) ≡ 0 → sliceDepth n j ≡ SliceDepth.Refused Refusal.BadLength

@@ -16,8 +16,8 @@ use Rattle.def.specs.Binary.{floorLog2}
 use Rattle.def.specs.declared.Refusal.the-variants.{BadLength}
 use Rattle.tbl.specs.DepthRows.{isGopSize, depthRule, depthRuleP, sliceDepth, sliceDepthP}
 use Rattle.tbl.specs.declared.SliceDepth.the-variants.{Depth, Refused}
-use Rattle.picman_ffi.specs.Depths.{depthOrZero}
-use Rattle.picman_ffi.specs.Claims.{DepthZero, DepthPZero}
+use Rattle.depths.specs.Depths.{depthOrZero}
+use Rattle.depths.specs.Claims.{DepthZero, DepthPZero}
 
 -- what holds of the four lengths holds of a group's length
 each-size : (P : ℕ → Type 0) → P 2 → P 4 → P 8 → P 16 → (n : ℕ) → isGopSize n ≡ true → P n
