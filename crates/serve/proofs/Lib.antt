@@ -1,4 +1,2 @@
-mod Within
 mod Serving
-mod Looping
 pub mod Claims

@@ -1,32 +1,31 @@
--- A turn: what it hands on, and that the session stays sound.
+-- The loop begins with room for the answers, and what its end comes to.
 -- Assumes nothing.
-use Prim.Native.Nat.{ℕ, zero, suc, _*_}
+use Prim.Native.Nat.{ℕ, _*_}
 use mathlib.Core.Path.{_≡_, refl, sym, ap, _∙_, subst}
 use mathlib.Core.Bool.{true, false}
 use mathlib.Core.Bool as Bool
 use mathlib.Core.List.{List}
 use native.Mathlib.Omega.{arith}
-use borrow.Author.Tests.{lt-ltb, leb-true}
+use borrow.Author.Tests.{leb-true}
 use lib.Dec.{leb}
-use lib.IntN.{ℤ, pos, negsuc}
-use lib.Signed.{ltZ}
-use lib.ListN.{length, take, length-replicate}
-use mir.Syntax.{w64}
-use mir.Val.{ofZ}
-use Rattle.io.specs.Counts.{clamped}
+use lib.ListN.{replicate, length-replicate}
 use Rattle.def.specs.State.{slots}
 use Rattle.keys.specs.Keys.{rowsLength}
 use Rattle.whole.specs.Whole.{whole}
 use Rattle.hex.specs.Hex.{digitTables}
-use Rattle.machine.specs.declared.{Machine.Machine, Scalars.Scalars}
+use Rattle.machine.specs.declared.Machine.{Machine}
 use Rattle.machine.specs.Running.{Runs}
 use Rattle.machine.proofs.Running.{new-machine}
 use Rattle.machine.proofs.EveryCall.{new-sound}
 use Rattle.run.specs.declared.Session.{Session}
-use Rattle.run.specs.Session.{NewSession, newKeys, newRows, answerSize, SoundSession, RanOver, EndedOver}
-use Rattle.serve.specs.declared.{Went.Went, Heard.Heard, Handed.Handed}
-use Rattle.serve.specs.declared.Went.the-variants.{On, InputEnded, ReadFailed, WriteFailed, LastWriteFailed}
-use Rattle.serve.specs.Serving.{Patient, TurnRoom, Idle, Turned, Given, taken, failed, Finished}
+use Rattle.run.specs.Session.{NewSession, newKeys, newRows, answerSize, SoundSession}
+use Rattle.giving.specs.declared.{Went.Went, Handed.Handed}
+use Rattle.giving.specs.declared.Went.the-variants.{On, InputEnded, ReadFailed, WriteFailed, LastWriteFailed}
+use Rattle.giving.specs.Giving.{isFinal, Finished}
+use Rattle.turning.specs.Turning.{TurnRoom}
+use Rattle.looping.specs.Loop.{Looped}
+use Rattle.looping.proofs.Looping.{never-last}
+use Rattle.serve.specs.Served.{isEnd, Ended, Served}
 
 new-runs : (s : Session) → NewSession s → SoundSession newKeys newRows s
 new-runs s new = record {
@@ -37,68 +36,43 @@ new-runs s new = record {
   room = new .new-room;
 }
 
--- The loop begins with room for an answer to each byte of a piece.
-pub new-room : {s : Session} {tables : List ℕ} (piece out : List ℕ) → NewSession s → tables ≡ digitTables
-    → leb (answerSize * length piece) (length out) ≡ true → leb answerSize (length out) ≡ true → TurnRoom newKeys newRows s tables piece out
-new-room {s} piece out new e many one =
-    record {
-      sound = new-runs s new;
-      tables-are = e;
-      answers-fit = leb-true (answerSize * length piece) (length out) many;
-      answer-fits = leb-true answerSize (length out) one;
-    }
+-- The loop begins with room for an answer to each byte of a piece: by the two sizes, so that no list is counted.
+pub new-room : {s : Session} {tables : List ℕ} (n m : ℕ) → NewSession s → tables ≡ digitTables → leb (answerSize * n) m ≡ true → leb answerSize m ≡ true
+    → TurnRoom newKeys newRows s tables (replicate n 0) (replicate m 0)
+new-room {s} n m new e many one =
+    let piece = length-replicate {A = ℕ} n 0 in
+    let out = length-replicate {A = ℕ} m 0 in
+    let a = leb-true (answerSize * n) m many in
+    let b = leb-true answerSize m one in
+    record { sound = new-runs s new; tables-are = e; answers-fit = omega arith; answer-fits = omega arith }
 
-idle-sound : {keys rows out keys′ rows′ out′ : List ℕ} {s : Session} {t : Handed} → SoundSession keys rows s → Idle keys rows s out t keys′ rows′ out′
-    → SoundSession keys′ rows′ (t .session)
-idle-sound sound i = rw (i .same-keys, i .same-rows, i .same-session) sound
+pub served-to-end : {keys rows keys₁ rows₁ piece₁ out₁ out′ : List ℕ} {s : Session} {last t : Handed} (keys′ rows′ piece′ : List ℕ)
+    → Looped keys rows s last keys₁ rows₁ piece₁ out₁ → isEnd (last .went) ≡ true → Finished keys₁ rows₁ last out₁ t out′
+    → Served (t .went) keys rows s t keys′ rows′ piece′ out′
+served-to-end {keys} {rows} {out′ = out′} {s} {last} {t} keys′ rows′ piece′ l e f =
+    by (t .went) (f .at-end) (record { last = last; keys₁ = _; rows₁ = _; piece₁ = _; out₁ = _; looped = l; input-ended = is-end (last .went) e; finished = f })
+  where
+    is-end : (w : Went) → isEnd w ≡ true → w ≡ InputEnded
+    is-end On h = absurd (Bool.false≢true h)
+    is-end InputEnded h = refl
+    is-end ReadFailed h = absurd (Bool.false≢true h)
+    is-end WriteFailed h = absurd (Bool.false≢true h)
+    is-end LastWriteFailed h = absurd (Bool.false≢true h)
 
-pub turned-sound : {keys rows : List ℕ} {s : Session} (out : List ℕ) (t : Handed) (keys′ rows′ piece′ out′ : List ℕ) → SoundSession keys rows s
-    → (w : Went) → Turned w keys rows s out t keys′ rows′ piece′ out′ → SoundSession keys′ rows′ (t .session)
-turned-sound out t keys′ rows′ piece′ out′ sound On r = r .ran .stays-sound
-turned-sound out t keys′ rows′ piece′ out′ sound WriteFailed r = r .ran .stays-sound
-turned-sound out t keys′ rows′ piece′ out′ sound InputEnded i = idle-sound sound (i .0)
-turned-sound out t keys′ rows′ piece′ out′ sound ReadFailed i = idle-sound sound (i .0)
-turned-sound out t keys′ rows′ piece′ out′ sound LastWriteFailed i = absurd i
+    by : (w : Went) → isFinal w ≡ true → Ended keys rows s t out′ → Served w keys rows s t keys′ rows′ piece′ out′
+    by On h d = absurd (Bool.false≢true h)
+    by InputEnded h d = d
+    by ReadFailed h d = absurd (Bool.false≢true h)
+    by WriteFailed h d = absurd (Bool.false≢true h)
+    by LastWriteFailed h d = d
 
--- A turn keeps the room for the next.
-pub still-room : {keys rows tables piece : List ℕ} {s : Session} (out : List ℕ) (t : Handed) (keys′ rows′ piece′ out′ : List ℕ)
-    → TurnRoom keys rows s tables piece out → Turned (t .went) keys rows s out t keys′ rows′ piece′ out′
-    → length piece′ ≡ length piece → length out′ ≡ length out → TurnRoom keys′ rows′ (t .session) tables piece′ out′
-still-room out t keys′ rows′ piece′ out′ room turned p o =
-    let a = room .answers-fit in
-    let b = room .answer-fits in
-    record {
-      sound = turned-sound out t keys′ rows′ piece′ out′ (room .sound) (t .went) turned;
-      tables-are = room .tables-are;
-      answers-fit = omega arith;
-      answer-fits = omega arith;
-    }
-
--- the sign of what a read answered, by the two tests of the code
-pub is-zero : (z : ℤ) → ltZ z (pos 0) ≡ false → ofZ w64 z ≡ 0 → z ≡ pos 0
-is-zero (pos n) e f = ap pos f
-is-zero (negsuc n) e f = absurd (Bool.true≢false e)
-
-pub is-positive : (z : ℤ) → ltZ z (pos 0) ≡ false → (ofZ w64 z ≡ 0 → ⊥) → ltZ (pos 0) z ≡ true
-is-positive (pos zero) e f = absurd (f refl)
-is-positive (pos (suc n)) e f = lt-ltb 0 (suc n) (omega arith)
-is-positive (negsuc n) e f = absurd (Bool.true≢false e)
-
-pub idle-turn : (keys rows : List ℕ) (s : Session) (out : List ℕ) (t : Handed) (h : Heard) (w : Went) → t ≡ record { session = s; heard = h; written = 0; went = w } → Patient h
-    → Idle keys rows s out t keys rows out
-idle-turn keys rows s out t h w e p = rw e (record { same-keys = refl; same-rows = refl; same-session = refl; same-out = refl; nothing-written = refl; heard-out = p })
-
--- A turn that read, whatever became of its write.
-pub ranged : {keys rows keys′ rows′ out out′ : List ℕ} (piece : List ℕ) {s next : Session} {h : Heard} {len n : ℕ} {z : ℤ} {r : Handed}
-    → n ≡ clamped z (length piece) → z ≡ h .got → RanOver keys rows s (take n piece) out (record { session = next; len = len }) keys′ rows′ out′
-    → ltZ (pos 0) (h .got) ≡ true → Given r (record { session = next; heard = h; written = len; went = On }) WriteFailed
-    → Turned (r .went) keys rows s out r keys′ rows′ piece out′
-ranged piece e z ran p taken = record { ran = rw (e, z) at ran; some-brought = p }
-ranged piece e z ran p failed = record { ran = rw (e, z) at ran; some-brought = p }
-
--- The end of the input, whatever became of the write.
-pub all-answered : {keys rows out out′ : List ℕ} {last r : Handed} {n : ℕ} → EndedOver keys rows (last .session) out n out′
-    → Given r (record { session = last .session; heard = last .heard; written = n; went = InputEnded }) LastWriteFailed
-    → Finished keys rows last out r out′
-all-answered e taken = record { ended = e; same-session = refl; same-heard = refl; at-end = refl }
-all-answered e failed = record { ended = e; same-session = refl; same-heard = refl; at-end = refl }
+pub served-before-end : {keys rows keys′ rows′ piece′ out′ : List ℕ} {s : Session} {t : Handed} → Looped keys rows s t keys′ rows′ piece′ out′
+    → isEnd (t .went) ≡ false → Served (t .went) keys rows s t keys′ rows′ piece′ out′
+served-before-end {keys} {rows} {keys′} {rows′} {piece′} {out′} {s} {t} l e = by (t .went) refl e
+  where
+    by : (w : Went) → t .went ≡ w → isEnd w ≡ false → Served w keys rows s t keys′ rows′ piece′ out′
+    by On h f = l
+    by InputEnded h f = absurd (Bool.true≢false f)
+    by ReadFailed h f = l
+    by WriteFailed h f = l
+    by LastWriteFailed h f = absurd (never-last (l .turns) h)

@@ -1,3 +1,2 @@
-pub mod Serving
-pub mod Loop
+pub mod Served
 pub mod Claims

@@ -1,6 +1,7 @@
 -- `serve::serve_lines` meets its contract: the turns, and at the end of the input its last line. Assumes nothing.
 use mathlib.Core.Path.{sym, _∙_}
-use Rattle.serve.proofs.Looping.{turns-sound, served-to-end, served-before-end}
+use Rattle.looping.proofs.Looping.{turns-sound}
+use Rattle.serve.proofs.Serving.{served-to-end, served-before-end}
 use borrow.Author.Needs.{needs}
 use Rattle.serve.proofs.serve_lines.Statement.{statement}
 use Rattle.serve.proofs.serve_lines.Tie as tie

@@ -1,4 +1,4 @@
--- `serve::turns` meets its contract: turn after turn, each on what the one before left. The measure is how many turns are left. Assumes nothing.
+-- `looping::turns` meets its contract: turn after turn, each on what the one before left. The measure is how many turns are left. Assumes nothing.
 use Prim.Native.Nat.{ℕ, _+_, _-_, _≤_}
 use native.Mathlib.Omega.{arith}
 use mathlib.Core.Path.{_≡_, refl, sym, ap, _∙_}
@@ -7,12 +7,12 @@ use mathlib.Core.List.{List}
 use lib.ListN.{length}
 use borrow.Author.Needs.{needs}
 use Rattle.run.specs.declared.Session.{Session}
-use Rattle.serve.specs.Serving.{isOn, TurnRoom}
-use Rattle.serve.specs.Loop.{mostTurns}
-use Rattle.serve.proofs.Serving.{still-room}
-use Rattle.serve.proofs.Looping.{Reached, reach-first, reach-next, renumber, looped}
-use Rattle.serve.proofs.turns.Statement.{statement}
-use Rattle.serve.proofs.turns.Tie as tie
+use Rattle.turning.specs.Turning.{TurnRoom}
+use Rattle.turning.proofs.Turning.{still-room}
+use Rattle.looping.specs.Loop.{isOn, mostTurns}
+use Rattle.looping.proofs.Looping.{Reached, reach-first, reach-next, renumber, looped}
+use Rattle.looping.proofs.turns.Statement.{statement}
+use Rattle.looping.proofs.turns.Tie as tie
 
 abbrev Inv-loop : tie.InvT-loop
 Inv-loop keys₀ rows₀ tables pipes piece₀ out₀ handed₀ left₀ keys rows piece out handed left =

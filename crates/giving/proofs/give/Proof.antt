@@ -1,10 +1,10 @@
--- `serve::give` meets its contract. Assumes nothing.
+-- `giving::give` meets its contract. Assumes nothing.
 use mathlib.Core.Path.{sym}
 use lib.Seq.{length-take-le}
-use Rattle.serve.specs.Serving.{taken, failed}
+use Rattle.giving.specs.Giving.{taken, failed}
 use borrow.Author.Needs.{needs}
-use Rattle.serve.proofs.give.Statement.{statement}
-use Rattle.serve.proofs.give.Tie as tie
+use Rattle.giving.proofs.give.Statement.{statement}
+use Rattle.giving.proofs.give.Tie as tie
 
 slice-aggregate-write-all : tie.Need-slice-aggregate-write-all
 slice-aggregate-write-all c = sym (length-take-le _ _ (c .before .before .pre))

@@ -1,12 +1,11 @@
--- `serve::turn` meets its contract: nothing was read, or what was read was run over. Assumes nothing.
+-- `turning::turn` meets its contract: nothing was read, or what was read was run over. Assumes nothing.
 use mathlib.Core.Path.{_≡_, refl}
 use mir.Syntax.{w64}
 use mir.Val.{toZ, ofZ}
-use Rattle.serve.proofs.Within.{ran-within}
-use Rattle.serve.proofs.Serving.{is-zero, is-positive, idle-turn, ranged}
+use Rattle.turning.proofs.Turning.{ran-within, is-zero, is-positive, idle-turn, ranged}
 use borrow.Author.Needs.{needs}
-use Rattle.serve.proofs.turn.Statement.{statement}
-use Rattle.serve.proofs.turn.Tie as tie
+use Rattle.turning.proofs.turn.Statement.{statement}
+use Rattle.turning.proofs.turn.Tie as tie
 
 read-some-requires : tie.Need-read-some-requires
 read-some-requires c κs = search needs

@@ -1,11 +1,11 @@
--- `serve::read_some` meets its contract: the piece keeps its length. The measure is how many repeats are left. Assumes nothing.
+-- `reading::read_some` meets its contract: the piece keeps its length. The measure is how many repeats are left. Assumes nothing.
 use mathlib.Core.Path.{_≡_, sym, _∙_}
 use mathlib.Core.Bool as Bool
 use native.Mathlib.Omega.{arith}
 use lib.ListN.{length}
 use borrow.Author.Needs.{needs}
-use Rattle.serve.proofs.read_some.Statement.{statement}
-use Rattle.serve.proofs.read_some.Tie as tie
+use Rattle.reading.proofs.read_some.Statement.{statement}
+use Rattle.reading.proofs.read_some.Tie as tie
 
 abbrev Inv-loop : tie.InvT-loop
 Inv-loop input piece₀ got₀ error₀ repeats₀ piece got error repeats = length piece ≡ length piece₀

@@ -1,9 +1,8 @@
--- `serve::finish` meets its contract. Assumes nothing.
-use Rattle.serve.proofs.Within.{end-within}
-use Rattle.serve.proofs.Serving.{all-answered}
+-- `giving::finish` meets its contract. Assumes nothing.
+use Rattle.giving.proofs.Giving.{end-within, all-answered}
 use borrow.Author.Needs.{needs}
-use Rattle.serve.proofs.finish.Statement.{statement}
-use Rattle.serve.proofs.finish.Tie as tie
+use Rattle.giving.proofs.finish.Statement.{statement}
+use Rattle.giving.proofs.finish.Tie as tie
 
 run-end-requires : tie.Need-run-end-requires
 run-end-requires c κs = search needs

@@ -1,4 +1,4 @@
--- `serve::interrupted` meets its contract. Assumes nothing.
+-- `reading::interrupted` meets its contract. Assumes nothing.
 use mathlib.Core.Path.{_≡_, refl}
 use native.Mathlib.Omega.{arith}
 use lib.Dec.{eqb}
@@ -7,9 +7,9 @@ use mir.Syntax.{w32, w64}
 use mir.Val.{toZ, ofZ, SFits}
 use borrow.Author.Needs.{needs}
 use borrow.Author.Tests.{ne-eqb}
-use Rattle.serve.specs.Serving.{isSignal}
-use Rattle.serve.proofs.interrupted.Statement.{statement}
-use Rattle.serve.proofs.interrupted.Tie as tie
+use Rattle.reading.specs.Reading.{isSignal}
+use Rattle.reading.proofs.interrupted.Statement.{statement}
+use Rattle.reading.proofs.interrupted.Tie as tie
 
 signal : (z : ℤ) → SFits w32 z → eqb (ofZ w32 z) 4 ≡ isSignal z
 signal (pos n) f = refl

@@ -1,0 +1,2 @@
+pub mod Looping
+pub mod Claims
