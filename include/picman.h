@@ -16,7 +16,7 @@
 extern "C" {
 #endif
 
-/* What a call comes to. Under a refusal, 1 to 18, nothing has changed. */
+/* What a call comes to. Under a refusal, 1 to 18 but 10, which is withdrawn and not used again, nothing has changed. */
 enum picman_status {
     PICMAN_DONE = 0,
     PICMAN_SIZE_TOO_BIG = 1,
@@ -28,7 +28,6 @@ enum picman_status {
     PICMAN_STATE_NOT_WHOLE = 7,
     PICMAN_TOO_MANY_REFERENCES = 8,
     PICMAN_NO_REFERENCES = 9,
-    PICMAN_OLD_REFERENCE = 10,
     PICMAN_FORWARD_LIST_EMPTY = 11,
     PICMAN_BACKWARD_LIST_EMPTY = 12,
     PICMAN_SAME_NUMBER = 13,

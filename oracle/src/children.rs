@@ -6,7 +6,7 @@ use crate::image::{Entry, Image, Machine, ENTRY_BYTES, IMAGE_BYTES, PLACES};
 use crate::judge::{described, hex};
 use crate::lines;
 use crate::original::Original;
-use crate::samples::{Kept, Request, Sample};
+use crate::samples::{Kept, Request, Sample, Why};
 use std::io::{Read, Write};
 use std::process::{Child, Command, Stdio};
 use std::time::{Duration, Instant};
@@ -22,12 +22,12 @@ enum Fate {
     Returns(u8),
 }
 
-/// Runs the kept samples of one refusal; gives the number of those that met their fate, or the first that did not.
+/// Runs the kept samples of one reason; gives the number of those that met their fate, or the first that did not.
 pub fn run(kept: &Kept) -> Result<usize, String> {
     let children: Vec<Child> = kept.samples.iter().map(spawn).collect();
     let start = Instant::now();
     for (child, sample) in children.into_iter().zip(&kept.samples) {
-        let fate = fate_of(kept.refusal, sample);
+        let fate = fate_of(kept.why, sample);
         let (code, stderr) = ended(child, start);
         if !met(&fate, code, &stderr) {
             let what = format!("{:?}: expected {fate:?}, exit {code:?}", sample.request);
@@ -38,23 +38,26 @@ pub fn run(kept: &Kept) -> Result<usize, String> {
 }
 
 /// Document 01's last column, with the words of the original's own assertions.
-fn fate_of(refusal: u8, sample: &Sample) -> Fate {
+fn fate_of(why: Why, sample: &Sample) -> Fate {
+    let Why::Refused(refusal) = why else {
+        return Fate::NeverReturns;
+    };
     match refusal {
         5 => Fate::Panics("assertion failed: self.pic[pos as usize].is_none()"),
         8 => Fate::Panics("index out of bounds: the len is 21 but the index is 21"),
         9 | 11 | 12 => Fate::Panics("assertion failed: x"),
-        10 | 15 => Fate::NeverReturns,
+        15 => Fate::NeverReturns,
         _ if same_number_first(sample) => Fate::Returns(13),
         _ => Fate::Panics("index out of bounds"),
     }
 }
 
 /// The same for the report.
-pub fn fate_words(refusal: u8) -> &'static str {
-    match refusal {
-        8 => "an index out of bounds",
-        10 | 15 => "never returns",
-        14 => "an index out of bounds, or the same number found before that,",
+pub fn fate_words(why: Why) -> &'static str {
+    match why {
+        Why::Refused(8) => "an index out of bounds",
+        Why::Refused(15) | Why::OldMet => "never returns",
+        Why::Refused(14) => "an index out of bounds, or the same number found before that,",
         _ => "a failed assertion",
     }
 }

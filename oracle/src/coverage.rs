@@ -33,14 +33,18 @@ const WANTED: [&[u8]; KINDS.len()] = [
     &[0, 7],
     &[0, 7, NOT_YET, NO_MORE],
     &[0, 6, 7],
-    &[0, 6, 7, 8, 9, 10, 11],
-    &[0, 6, 7, 8, 9, 10, 11],
-    &[0, 6, 7, 8, 9, 10, 11],
+    &[0, 6, 7, 8, 9, 11],
+    &[0, 6, 7, 8, 9, 11],
+    &[0, 6, 7, 8, 9, 11],
     &[0, 6, 15, 16],
     &[18],
     &[0, 13, 14],
     &[18],
 ];
+
+/// The rows in which an old reference can be met, and what such calls must come to at least once.
+const OLD_ROWS: [usize; 3] = [6, 7, 8];
+const WANTED_OLD: [u8; 2] = [0, 11];
 
 const SITUATIONS: [&str; 19] = [
     "get takes an idle picture again",
@@ -71,7 +75,11 @@ pub struct Coverage {
     pub judged_by_rust: u64,
     /// Accepted calls on lists that the Rust cannot hold: an empty entry with a buffer number.
     pub no_counterpart: u64,
+    /// Accepted calls that meet an old reference, compared with the original on the state less its old marks.
+    pub less_old: u64,
     by_status: [[u64; 256]; KINDS.len()],
+    /// Of these, the calls that meet an old reference: the definition decides them, and not the Rust.
+    old_by_status: [[u64; 256]; KINDS.len()],
     situations: [u64; SITUATIONS.len()],
 }
 
@@ -81,16 +89,26 @@ impl Default for Coverage {
             calls: 0,
             judged_by_rust: 0,
             no_counterpart: 0,
+            less_old: 0,
             by_status: [[0; 256]; KINDS.len()],
+            old_by_status: [[0; 256]; KINDS.len()],
             situations: [0; SITUATIONS.len()],
         }
     }
 }
 
 impl Coverage {
-    pub fn call(&mut self, call: Option<&Call>, status: u8) {
+    pub fn call(&mut self, call: Option<&Call>, status: u8, met_old: bool) {
         self.calls += 1;
-        self.by_status[call.map_or(NO_CALL, kind)][usize::from(status)] += 1;
+        let (row, status) = (call.map_or(NO_CALL, kind), usize::from(status));
+        self.by_status[row][status] += 1;
+        self.old_by_status[row][status] += u64::from(met_old);
+    }
+
+    /// Calls that meet an old reference, and those of them that are accepted.
+    pub fn met_old(&self) -> (u64, u64) {
+        let rows = &self.old_by_status;
+        (rows.iter().flatten().sum(), rows.iter().map(|row| row[0]).sum())
     }
 
     pub fn copy(&mut self, status: u8) {
@@ -124,6 +142,15 @@ impl Coverage {
         for (kind, statuses) in WANTED.iter().enumerate() {
             for status in statuses.iter().filter(|status| self.by_status[kind][usize::from(**status)] == 0) {
                 missing.push(format!("{} with status {}", KINDS[kind], status_name(*status)));
+            }
+        }
+        for (row, status) in OLD_ROWS.iter().flat_map(|row| WANTED_OLD.map(|status| (*row, status))) {
+            if self.old_by_status[row][usize::from(status)] == 0 {
+                missing.push(format!(
+                    "{} with an old reference met and status {}",
+                    KINDS[row],
+                    status_name(status)
+                ));
             }
         }
         for (name, count) in SITUATIONS.iter().zip(self.situations) {
@@ -210,14 +237,22 @@ fn derive_situations(log2_length: u8, before: &Machine, after: &Machine) -> Met 
     at(16, &[new.prev_poc_val > old.prev_poc_val, new.prev_doc_offset < next, new.poc_val < 0])
 }
 
+fn write_row(f: &mut fmt::Formatter<'_>, name: &str, row: &[u64; 256]) -> fmt::Result {
+    write!(f, "  {name:18}")?;
+    for (status, count) in row.iter().enumerate().filter(|(_, count)| **count > 0) {
+        write!(f, " {}: {count} ", status_name(status as u8))?;
+    }
+    writeln!(f)
+}
+
 impl fmt::Display for Coverage {
     fn fmt(&self, f: &mut fmt::Formatter<'_>) -> fmt::Result {
         for (name, row) in KINDS.iter().zip(&self.by_status) {
-            write!(f, "  {name:18}")?;
-            for (status, count) in row.iter().enumerate().filter(|(_, count)| **count > 0) {
-                write!(f, " {}: {count} ", status_name(status as u8))?;
-            }
-            writeln!(f)?;
+            write_row(f, name, row)?;
+        }
+        writeln!(f, "  of these, with an old reference met before the list was full:")?;
+        for row in OLD_ROWS {
+            write_row(f, KINDS[row], &self.old_by_status[row])?;
         }
         for (name, count) in SITUATIONS.iter().zip(self.situations) {
             writeln!(f, "  {count:>10}  {name}")?;

@@ -1,6 +1,7 @@
-//! One call on three sides: ours, the original where it decides, and document 01 for every refusal.
+//! One call on three sides: ours, the original where it decides, and the papers for every refusal and for every call
+//! that meets an old reference.
 
-use crate::call::{Call, Outcome, Reply, BAD_LINE};
+use crate::call::{Call, Lists, Outcome, Reply, BAD_LINE};
 use crate::coverage::Coverage;
 use crate::image::{field_name, Entry, Image, Machine, ENTRY_BYTES, IMAGE_BYTES, STATE_BYTES};
 use crate::original::Original;
@@ -9,7 +10,7 @@ use crate::papers::{self, whole::whole};
 use crate::running::judge::{Judged, RunningJudge};
 use crate::running::library::OursRunning;
 use crate::running::Running;
-use crate::samples::{Request, Samples};
+use crate::samples::{Request, Samples, Why};
 use crate::watch;
 use std::fmt::Write;
 use std::panic::{catch_unwind, AssertUnwindSafe};
@@ -76,14 +77,18 @@ impl Judge {
 
         let call = Call::parse(bytes);
         let machine_before = sides.machine.clone();
+        let met_old = call.is_some_and(|call| papers::meets_old(&sides.machine, &call));
         let outcome = call.map(|call| papers::call(&mut sides.machine, &call));
         let reply = match (call, outcome) {
             (Some(call), Some(outcome)) => Reply::new(call.code(), outcome),
             _ => Reply::BAD,
         };
-        self.coverage.call(call.as_ref(), reply.status);
+        self.coverage.call(call.as_ref(), reply.status, met_old);
 
         let expected = match (call, outcome) {
+            (Some(Call::Lists(request)), Some(outcome)) if met_old => {
+                self.by_definition(sides, &before, &request, outcome)
+            }
             (Some(call), Some(outcome)) => self.expected(sides, &before, &Request::Call(call), outcome),
             _ => Ok(before),
         };
@@ -103,12 +108,12 @@ impl Judge {
         let asked = || format!("call {}, ours answers {}\n{call:?}", hex(bytes), hex(&answer));
         found.map_err(|why| report(&why, &asked(), &before))?;
 
-        match (call, outcome) {
-            (Some(call), Some(Ok(_))) => {
+        if let Some(call) = call {
+            if let Some(Ok(_)) = outcome {
                 self.coverage.accepted(&call, &machine_before, &sides.machine, &reply);
             }
-            (Some(call), _) => self.samples.offer(reply.status, &machine_before, Request::Call(call)),
-            _ => {}
+            let why = if met_old { Why::OldMet } else { Why::Refused(reply.status) };
+            self.samples.offer(why, &machine_before, Request::Call(call));
         }
         Ok(reply)
     }
@@ -150,7 +155,7 @@ impl Judge {
         let asked = || format!("copy to place {cnt} of list {lidx}, ours answers {status}\n{entry:?}");
         found.map_err(|why| report(&why, &asked(), &before))?;
         if let (Some(entry), 14) = (entry, expected_status) {
-            self.samples.offer(14, &sides.machine, Request::Copy(cnt, lidx, entry));
+            self.samples.offer(Why::Refused(14), &sides.machine, Request::Copy(cnt, lidx, entry));
         }
         Ok(())
     }
@@ -163,7 +168,7 @@ impl Judge {
         request: &Request,
         outcome: Outcome,
     ) -> Result<Image, String> {
-        if !papers::rust_decides(&outcome) {
+        if !papers::rust_decides(&outcome, false) {
             return Ok(*before);
         }
         let live = sides.original.take().filter(|_| in_rust(request));
@@ -190,6 +195,33 @@ impl Judge {
             image[..STATE_BYTES].copy_from_slice(&before[..STATE_BYTES]);
         }
         Ok(image)
+    }
+
+    /// The image that a list call leaves which meets an old reference. The original can't make that call, but asked
+    /// without its age test on the state whose old pictures are unmarked it must build the same lists.
+    fn by_definition(
+        &mut self,
+        sides: &mut Sides,
+        before: &Image,
+        request: &Lists,
+        outcome: Outcome,
+    ) -> Result<Image, String> {
+        if outcome.is_err() {
+            return Ok(*before);
+        }
+        sides.original = None;
+        let machine = Machine::decode(before).ok_or("no image")?;
+        let (less_old, request) = papers::lists::less_old(&machine, request);
+        if let Some(mut original) = Original::from_machine(&less_old) {
+            let ran = catch_unwind(AssertUnwindSafe(|| original.call(&Call::Lists(request))));
+            let by_rust = ran.map_err(|_| "the Rust panics on the state less its old marks")?;
+            let built = original.to_machine();
+            if (by_rust, &built.refp, built.num_refp) != (outcome, &sides.machine.refp, sides.machine.num_refp) {
+                return Err(format!("the Rust builds other lists on the state less its old marks: {by_rust:?}"));
+            }
+            self.coverage.less_old += 1;
+        }
+        Ok(encoded(&sides.machine))
     }
 
     /// Bytes that are no image: 18, and nothing is written.

@@ -1,5 +1,5 @@
 //! Calls on which document 01 says that the Rust asserts, panics or never returns: an even choice of those met,
-//! kept to be run in child processes at the end.
+//! kept to be run in child processes at the end. Calls that meet an old reference are among them, accepted ones too.
 
 use crate::call::Call;
 use crate::image::{Entry, Machine};
@@ -37,9 +37,16 @@ pub struct Sample {
     pub request: Request,
 }
 
-/// The samples of one refusal.
+/// Why the original does not answer: with one of our refusals, or because an old reference is met.
+#[derive(Clone, Copy, Debug, PartialEq)]
+pub enum Why {
+    Refused(u8),
+    OldMet,
+}
+
+/// The samples of one reason.
 pub struct Kept {
-    pub refusal: u8,
+    pub why: Why,
     pub never_returns: bool,
     pub met: u64,
     pub samples: Vec<Sample>,
@@ -52,14 +59,17 @@ pub struct Samples {
 
 impl Samples {
     pub fn new(seed: u64) -> Samples {
-        let kept =
-            |refusal| Kept { refusal, never_returns: matches!(refusal, 10 | 15), met: 0, samples: Vec::new() };
-        Samples { rng: Rng::new(seed), kept: [5, 8, 9, 10, 11, 12, 14, 15].map(kept).into() }
+        let kept = |why| {
+            let never_returns = matches!(why, Why::OldMet | Why::Refused(15));
+            Kept { why, never_returns, met: 0, samples: Vec::new() }
+        };
+        let refusals = [5, 8, 9, 11, 12, 14, 15].map(Why::Refused);
+        Samples { rng: Rng::new(seed), kept: refusals.into_iter().chain([Why::OldMet]).map(kept).collect() }
     }
 
     /// Each of those met is as likely to be kept as any other.
-    pub fn offer(&mut self, refusal: u8, machine: &Machine, request: Request) {
-        let Some(kept) = self.kept.iter_mut().find(|kept| kept.refusal == refusal) else {
+    pub fn offer(&mut self, why: Why, machine: &Machine, request: Request) {
+        let Some(kept) = self.kept.iter_mut().find(|kept| kept.why == why) else {
             return;
         };
         if !machine.lists_in_rust() || !request.in_rust(machine) {

@@ -1,5 +1,5 @@
 //! A machine as 6,407 bytes, big-endian: the form for exchange and comparison. Each function gives a status; a call that is
-//! turned down, with a number from 1 to 18, leaves the image as it was.
+//! turned down, with a refusal's number, leaves the image as it was.
 
 use crate::{ANSWER, ENTRY, IMAGE};
 

@@ -133,7 +133,7 @@ pub struct Machine {
 #[must_use]
 #[derive(Clone, Copy, Debug, PartialEq, Eq)]
 pub struct Answer {
-    /// 0, a refusal from 1 to 18, [`crate::NOT_YET`] or [`crate::NO_MORE`].
+    /// 0, a refusal, [`crate::NOT_YET`] or [`crate::NO_MORE`].
     pub status: u8,
     pub buffer: Option<u8>,
     /// The picture number of a get, a put and an out; [`Answer::counts`] of a list call; [`Answer::number`] of a derivation;

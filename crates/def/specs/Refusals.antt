@@ -1,11 +1,12 @@
 -- Document 01, "Turned-down calls": the number of each refusal, and what the Rust says or does in its place.
 -- Assumes nothing.
 use Prim.Native.Nat.{ℕ, _≤_}
-use mathlib.Core.Bool.{Bool, _&&_}
+use mathlib.Core.Path.{_≡_}
+use mathlib.Core.Bool.{Bool, not, _&&_}
 use mathlib.Core.List.{List, [], _∷_}
-use lib.Dec.{leb}
+use lib.Dec.{leb, eqb}
 use Rattle.def.specs.declared.Refusal.{Refusal}
-use Rattle.def.specs.declared.Refusal.the-variants.{SizeTooBig, StoreFull, PictureLeased, NoLease, SlotTaken, NumberTooHigh, StateNotWhole, TooManyReferences, NoReferences, OldReference, ForwardListEmpty, BackwardListEmpty, SameNumber, NoSuchPlace, BadLayer, BadRecord, BadLength, BadLine}
+use Rattle.def.specs.declared.Refusal.the-variants.{SizeTooBig, StoreFull, PictureLeased, NoLease, SlotTaken, NumberTooHigh, StateNotWhole, TooManyReferences, NoReferences, ForwardListEmpty, BackwardListEmpty, SameNumber, NoSuchPlace, BadLayer, BadRecord, BadLength, BadLine}
 
 abbrev pub refusalNumber : Refusal → ℕ
 refusalNumber SizeTooBig = 1
@@ -17,7 +18,6 @@ refusalNumber NumberTooHigh = 6
 refusalNumber StateNotWhole = 7
 refusalNumber TooManyReferences = 8
 refusalNumber NoReferences = 9
-refusalNumber OldReference = 10
 refusalNumber ForwardListEmpty = 11
 refusalNumber BackwardListEmpty = 12
 refusalNumber SameNumber = 13
@@ -27,12 +27,16 @@ refusalNumber BadRecord = 16
 refusalNumber BadLength = 17
 refusalNumber BadLine = 18
 
--- The numbers of refusals, told by a test and as a fact.
+-- The numbers in use, told by a test and as a fact: 1 to 9 and 11 to 18. 10 is withdrawn and gets no second meaning.
 abbrev pub numberInUse : ℕ → Bool
-numberInUse n = leb 1 n && leb n 18
+numberInUse n = leb 1 n && (leb n 18 && not (eqb n 10))
 
 abbrev pub NumberInUse : ℕ → Type 0
-NumberInUse n = (1 ≤ n) × (n ≤ 18)
+NumberInUse n = (1 ≤ n) × (n ≤ 18) × (n ≡ 10 → ⊥)
+
+-- Every refusal has such a number. Proof: proofs/Refusals.antt.
+abbrev pub RefusalsInUse : Type 0
+RefusalsInUse = (why : Refusal) → NumberInUse (refusalNumber why)
 
 -- The Rust's word: an error that it returns, or what happens to it instead; `added` where it has no such test.
 pub data RustWord : Type 0 where
@@ -49,7 +53,6 @@ rustWords NumberTooHigh = added ∷ []
 rustWords StateNotWhole = added ∷ []
 rustWords TooManyReferences = panics ∷ []
 rustWords NoReferences = asserts ∷ []
-rustWords OldReference = never-returns ∷ []
 rustWords ForwardListEmpty = asserts ∷ []
 rustWords BackwardListEmpty = asserts ∷ []
 rustWords SameNumber = EVC-ERR ∷ []

@@ -63,7 +63,7 @@ pub fn slice_type_of(byte: u8) -> SliceType
     }
 }
 
-// A call that is turned down says why by one of these; `refusal_number` is its number.
+// A call that is turned down says why by one of these; `refusal_number` is its number. 10 is withdrawn and is not used again.
 pub enum Refusal {
     SizeTooBig,
     // Document 01 calls it rack full.
@@ -76,8 +76,6 @@ pub enum Refusal {
     StateNotWhole,
     TooManyReferences,
     NoReferences,
-    // Document 01 calls it stuck reference.
-    OldReference,
     ForwardListEmpty,
     BackwardListEmpty,
     // Document 01 calls it twin.
@@ -89,14 +87,16 @@ pub enum Refusal {
     BadLine,
 }
 
-// The highest number of a refusal.
+// The highest number of a refusal, and the one that is withdrawn.
 const HIGHEST_REFUSAL: u8 = 18;
+
+const WITHDRAWN: u8 = 10;
 
 // Whether a status is the number of a refusal.
 pub fn is_refusal_number(n: u8) -> bool
     ensures { λ r. ⌜ r ≡ numberInUse n ⌝ }
 {
-    (1 <= n) & (n <= HIGHEST_REFUSAL)
+    (1 <= n) & ((n <= HIGHEST_REFUSAL) & !(n == WITHDRAWN))
 }
 
 pub fn refusal_number(r: Refusal) -> u8
@@ -112,7 +112,6 @@ pub fn refusal_number(r: Refusal) -> u8
         Refusal::StateNotWhole => 7,
         Refusal::TooManyReferences => 8,
         Refusal::NoReferences => 9,
-        Refusal::OldReference => 10,
         Refusal::ForwardListEmpty => 11,
         Refusal::BackwardListEmpty => 12,
         Refusal::SameNumber => 13,

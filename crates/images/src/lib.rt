@@ -1,7 +1,7 @@
 // Calls on a machine as the bytes of an image, for exchange and comparison: thin over the crates below, and no faster than they must be. A size or
 // a flag byte that does not fit gives 18, and nothing is written. In the contracts `given` says, byte for byte, what is given and what the lent
 // buffers hold then; `holds` says that the bytes are an image again, from which the next call reads the machine that this one left; `kept` says
-// that a call that is turned down, with a number from 1 to 18, leaves the image as it was.
+// that a call that is turned down, with a refusal's number, leaves the image as it was.
 use copying::check_copy_refp;
 use exchange::read_machine;
 use exchange::write_machine;

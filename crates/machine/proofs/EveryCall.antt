@@ -10,7 +10,7 @@ use Rattle.def.specs.declared.{EvcPm.EvcPm, EvcRefP.EvcRefP, EvcPoc.EvcPoc, Put
 use Rattle.def.specs.declared.Answer.{Answer}
 use Rattle.def.specs.declared.Answer.the-variants.{Done, Picture, NotYet, NoMore, Counts, Refused}
 use Rattle.def.specs.declared.Refusal.{Refusal}
-use Rattle.def.specs.declared.Refusal.the-variants.{SizeTooBig, StoreFull, PictureLeased, NoLease, SlotTaken, NumberTooHigh, StateNotWhole, TooManyReferences, NoReferences, OldReference, ForwardListEmpty, BackwardListEmpty, SameNumber, NoSuchPlace, BadLayer, BadRecord, BadLength, BadLine}
+use Rattle.def.specs.declared.Refusal.the-variants.{SizeTooBig, StoreFull, PictureLeased, NoLease, SlotTaken, NumberTooHigh, StateNotWhole, TooManyReferences, NoReferences, ForwardListEmpty, BackwardListEmpty, SameNumber, NoSuchPlace, BadLayer, BadRecord, BadLength, BadLine}
 use Rattle.def.specs.Refusals.{refusalNumber}
 use Rattle.def.specs.State.{slots}
 use Rattle.poc.specs.declared.PocAnswer.{PocAnswer}
@@ -139,7 +139,6 @@ is-seven NumberTooHigh e = absurd (omega arith)
 is-seven StateNotWhole e = refl
 is-seven TooManyReferences e = absurd (omega arith)
 is-seven NoReferences e = absurd (omega arith)
-is-seven OldReference e = absurd (omega arith)
 is-seven ForwardListEmpty e = absurd (omega arith)
 is-seven BackwardListEmpty e = absurd (omega arith)
 is-seven SameNumber e = absurd (omega arith)

@@ -13,7 +13,7 @@ use Rattle.def.specs.declared.Refusal.the-variants.{TooManyReferences, NoRefere
 use Rattle.def.specs.State.{listPlaces}
 use Rattle.passes.specs.declared.Walk.{Walk}
 use Rattle.passes.specs.Order.{Key}
-use Rattle.passes.specs.Passes.{Passed, took, met-old, askOf}
+use Rattle.passes.specs.Passes.{askOf}
 use Rattle.passes.specs.Choice.{turned-down, chosen, isB, forwardWalk, forwardOf, backwardOf, withBackward, withForward, choice, Backward, of-b, of-other, Accepted}
 use Rattle.passes.proofs.Taken.{Taken, none-taken, list-taken}
 
@@ -21,29 +21,28 @@ clash : {why : Refusal} {f b : List Key} → turned-down why ≡ chosen f b → 
 clash e = let z : _≡_ {A = ℕ} 0 1 = cc in omega arith
 
 module _ (c : RefpCall) (ks fwd bwd : List Key) where
-  on-backward : (q : Passed) (f : List Key) → backwardOf c ks ≡ q → isB (c .«slice_type») ≡ true → withBackward f q ≡ chosen fwd bwd → (f ≡ fwd) × Backward c ks bwd
-  on-backward met-old f r b e = absurd (clash e)
-  on-backward (took g) f r b e = go (eqb (length g) 0) refl e
+  on-backward : (f : List Key) → isB (c .«slice_type») ≡ true → withBackward f (backwardOf c ks) ≡ chosen fwd bwd → (f ≡ fwd) × Backward c ks bwd
+  on-backward f b e = go (eqb (length (backwardOf c ks)) 0) refl e
     where
-      go : (z : Bool) → eqb (length g) 0 ≡ z → cond z (turned-down BackwardListEmpty) (chosen f g) ≡ chosen fwd bwd → (f ≡ fwd) × Backward c ks bwd
+      go : (z : Bool) → eqb (length (backwardOf c ks)) 0 ≡ z → cond z (turned-down BackwardListEmpty) (chosen f (backwardOf c ks)) ≡ chosen fwd bwd
+          → (f ≡ fwd) × Backward c ks bwd
       go true n e = absurd (clash e)
       go false n e =
-          let s : g ≡ bwd = cc in
-          (cc, of-b b (r ∙ ap took s) (λ z. eqb-false (length g) 0 n (ap length s ∙ z)))
+          let s : backwardOf c ks ≡ bwd = cc in
+          (cc, of-b b s (λ z. eqb-false (length (backwardOf c ks)) 0 n (ap length s ∙ z)))
 
-  on-forward : (p : Passed) (b : Bool) → isB (c .«slice_type») ≡ b → withForward b (backwardOf c ks) p ≡ chosen fwd bwd
-      → (p ≡ took fwd) × (length fwd ≡ 0 → ⊥) × Backward c ks bwd
-  on-forward met-old b t e = absurd (clash e)
-  on-forward (took f) b t e = go (eqb (length f) 0) b refl t e
+  on-forward : withForward (isB (c .«slice_type»)) (backwardOf c ks) (forwardOf c ks) ≡ chosen fwd bwd
+      → (forwardOf c ks ≡ fwd) × (length fwd ≡ 0 → ⊥) × Backward c ks bwd
+  on-forward e = go (eqb (length (forwardOf c ks)) 0) (isB (c .«slice_type»)) refl refl e
     where
-      done : eqb (length f) 0 ≡ false → (f ≡ fwd) × Backward c ks bwd → (took f ≡ took fwd) × (length fwd ≡ 0 → ⊥) × Backward c ks bwd
-      done n r = (ap took (r .0), λ z. eqb-false (length f) 0 n (ap length (r .0) ∙ z), r .1)
+      done : eqb (length (forwardOf c ks)) 0 ≡ false → (forwardOf c ks ≡ fwd) × Backward c ks bwd → (forwardOf c ks ≡ fwd) × (length fwd ≡ 0 → ⊥) × Backward c ks bwd
+      done n r = (r .0, λ z. eqb-false (length (forwardOf c ks)) 0 n (ap length (r .0) ∙ z), r .1)
 
-      go : (z b : Bool) → eqb (length f) 0 ≡ z → isB (c .«slice_type») ≡ b
-          → cond z (turned-down ForwardListEmpty) (cond b (withBackward f (backwardOf c ks)) (chosen f [])) ≡ chosen fwd bwd
-          → (took f ≡ took fwd) × (length fwd ≡ 0 → ⊥) × Backward c ks bwd
+      go : (z b : Bool) → eqb (length (forwardOf c ks)) 0 ≡ z → isB (c .«slice_type») ≡ b
+          → cond z (turned-down ForwardListEmpty) (cond b (withBackward (forwardOf c ks) (backwardOf c ks)) (chosen (forwardOf c ks) [])) ≡ chosen fwd bwd
+          → (forwardOf c ks ≡ fwd) × (length fwd ≡ 0 → ⊥) × Backward c ks bwd
       go true b n t e = absurd (clash e)
-      go false true n t e = done n (on-backward (backwardOf c ks) f refl t e)
+      go false true n t e = done n (on-backward (forwardOf c ks) t e)
       go false false n t e = done n (cc, of-other t (let s : [] ≡ bwd = cc in sym s))
 
   pub accepted : choice c ks ≡ chosen fwd bwd → Accepted c ks fwd bwd
@@ -56,16 +55,16 @@ module _ (c : RefpCall) (ks fwd bwd : List Key) where
       go true z p q e = absurd (clash e)
       go false true p q e = absurd (clash e)
       go false false p q e =
-          let r = on-forward (forwardOf c ks) (isB (c .«slice_type»)) refl e in
+          let r = on-forward e in
           record { at-most = ltb-false listPlaces (length ks) p; some = eqb-false (length ks) 0 q; forward-is = r .0; forward-some = r .1; backward-is = r .2 }
 
   -- Both lists hold keys of the order, none twice, at most as many as the limit and as there are keys.
   pub forward-taken : Accepted c ks fwd bwd → Taken (c .«max_num_ref_pics») ks fwd
-  forward-taken w = list-taken (askOf c) (forwardWalk (c .«slice_type»)) ks fwd (w .forward-is)
+  forward-taken w = subst (Taken (c .«max_num_ref_pics») ks) (w .forward-is) (list-taken (askOf c) (forwardWalk (c .«slice_type»)) ks)
 
   pub backward-taken : Accepted c ks fwd bwd → Taken (c .«max_num_ref_pics») ks bwd
   backward-taken w = go (w .backward-is)
     where
       go : Backward c ks bwd → Taken (c .«max_num_ref_pics») ks bwd
-      go (of-b t r n) = list-taken (askOf c) Walk.UpThenDown ks bwd r
+      go (of-b t r n) = subst (Taken (c .«max_num_ref_pics») ks) r (list-taken (askOf c) Walk.UpThenDown ks)
       go (of-other t e) = subst (Taken (c .«max_num_ref_pics») ks) (sym e) (none-taken (c .«max_num_ref_pics») ks)

@@ -1,31 +1,28 @@
 -- What a list can hold: keys of the order, none twice, at most as many as the list limit and as there are keys.
 -- Assumes nothing.
 use mathlib.Core.Path.{_≡_, refl, sym, ap, _∙_, subst}
-use mathlib.Core.Bool.{Bool, true, false, cond, not}
+use mathlib.Core.Bool.{Bool, true, false, not, _&&_}
 use mathlib.Core.Bool as Bool
 use mathlib.Core.List.{List, [], _∷_, _++_, append-nil, append-assoc, Sublistᴰ, Sublistᴰ·cons, Sublistᴰ·cons-cons, Sublistᴰ·nil-sublist, List·Memᴰ, List·Memᴰ·not-nil, List·Memᴰ·append-cases}
 use mathlib.Core.Logic.{⊎-elim}
-use Prim.Native.Nat.{ℕ, _+_, _≤_}
+use Prim.Native.Nat.{ℕ, _+_, _≤_, _<_}
 use native.Mathlib.Omega.{arith}
-use lib.Dec.{leb}
+use lib.Dec.{leb, ltb}
 use lib.ListN.{length, length-append}
-use borrow.Author.Tests.{leb-false}
+use lib.Seq.{take-at}
+use borrow.Author.Tests.{ltb-true}
 use Rattle.seq.specs.Lists.{count, Distinct}
 use Rattle.seq.specs.Members.{holds-cons}
-use Rattle.seq.specs.All.{and-left, count-length}
+use Rattle.seq.specs.All.{and-left, and-right, count-length}
 use Rattle.seq.specs.Distinct.{distinct-append}
 use Rattle.seq.specs.Sublists.{sublist-mem, sublist-distinct, sublist-count}
 use Rattle.passes.specs.Order.{Key}
 use Rattle.passes.specs.declared.Walk.{Walk}
-use Rattle.passes.specs.Passes.{takesKey, bothWays, Ask, Passed, took, met-old, passOn, pass, andThen, sideOf, walked, listOf}
+use Rattle.passes.specs.Passes.{Ask, Progress, sideOf, walked, takesKey, stepOn, passOn, pass, bothWays, listOf}
+use Rattle.passes.specs.Claims.{GrowsAtEnd}
+use Rattle.passes.proofs.PassLaws.{step-takes, step-leaves}
 use Rattle.passes.proofs.Sides.{one-side, sides-count}
 use Rattle.passes.proofs.Walked.{walked-count, walked-mem, walked-distinct}
-
-took-inj : {xs ys : List Key} → took xs ≡ took ys → xs ≡ ys
-took-inj e = cc
-
-not-met : {xs : List Key} → met-old ≡ took xs → ⊥
-not-met e = let z : _≡_ {A = ℕ} 0 1 = cc in omega arith
 
 -- A pass leaves the list as it was and puts behind it keys of its side, in the order of the walk, up to the limit.
 pub record Grown (a : Ask) (up : Bool) (ks list out : List Key) : Type 0 where
@@ -36,46 +33,54 @@ pub record Grown (a : Ask) (up : Bool) (ks list out : List Key) : Type 0 where
   pub limited : length list ≤ a .limit → length out ≤ a .limit
 
 module _ (a : Ask) (up : Bool) where
-  same : (ks list out : List Key) → list ≡ out → Grown a up ks list out
-  same ks list out e =
+  same : (list : List Key) → Grown a up [] list list
+  same list =
       record {
         more = [];
-        split = sym e ∙ sym (append-nil list);
-        inside = Sublistᴰ·nil-sublist ks;
+        split = sym (append-nil list);
+        inside = Sublistᴰ·nil-sublist [];
         on-side = λ k m. absurd (List·Memᴰ·not-nil m);
-        limited = λ h. subst (λ (l : List Key). length l ≤ a .limit) e h;
-      }
-
-  one-more : (k : Key) (ks list out : List Key) → sideOf up (a .poc) k ≡ true → leb (a .limit) (length list) ≡ false → Grown a up ks (list ++ (k ∷ [])) out → Grown a up (k ∷ ks) list out
-  one-more k ks list out t f g =
-      record {
-        more = k ∷ g .more;
-        split = g .split ∙ append-assoc list (k ∷ []) (g .more);
-        inside = Sublistᴰ·cons-cons refl (g .inside);
-        on-side = holds-cons (λ x. sideOf up (a .poc) x ≡ true) t (g .on-side);
-        limited = λ h. g .limited (let n = length-append list (k ∷ []) in let l = leb-false (a .limit) (length list) f in omega arith);
+        limited = λ h. h;
       }
 
   passed-by : (k : Key) (ks list out : List Key) → Grown a up ks list out → Grown a up (k ∷ ks) list out
   passed-by k ks list out g = record { more = g .more; split = g .split; inside = Sublistᴰ·cons (g .inside); on-side = g .on-side; limited = g .limited }
 
-  pass-grows : (list : List Key) (bound : ℕ) (ks out : List Key) → passOn a up list bound ks ≡ took out → Grown a up ks list out
-  unfolding passOn
-  pass-grows list bound [] out e = same [] list out (took-inj e)
-  pass-grows list bound (k ∷ ks) out e =
-      go (leb (a .limit) (length list)) (a .old k) (takesKey up (a .poc) bound k) refl refl (λ l b. pass-grows l b ks out) e
-    where
-      go : (f o t : Bool) → leb (a .limit) (length list) ≡ f → takesKey up (a .poc) bound k ≡ t → ((l : List Key) (b : ℕ) → passOn a up l b ks ≡ took out → Grown a up ks l out)
-          → cond f (took list) (cond o met-old (passOn a up (cond t (list ++ (k ∷ [])) list) (cond t (a .after (k .layer)) bound) ks)) ≡ took out
-          → Grown a up (k ∷ ks) list out
-      go true o t p q ih e = same (k ∷ ks) list out (took-inj e)
-      go false true t p q ih e = absurd (not-met e)
-      go false false true p q ih e = one-more k ks list out (and-left (sideOf up (a .poc) k) (leb (k .layer) bound) q) p (ih (list ++ (k ∷ [])) (a .after (k .layer)) e)
-      go false false false p q ih e = passed-by k ks list out (ih list bound e)
+  -- what is taken stands on the side, and the list had room for it
+  pub taken-side : (cnt bound : ℕ) (k : Key) → takesKey a up cnt bound k ≡ true → (cnt < a .limit) × (sideOf up (a .poc) k ≡ true)
+  taken-side cnt bound k t =
+      let side = sideOf up (a .poc) k && leb (k .layer) bound in
+      let rest = and-right (ltb cnt (a .limit)) (not (a .old k) && side) t in
+      (ltb-true cnt (a .limit) (and-left (ltb cnt (a .limit)) (not (a .old k) && side) t), and-left (sideOf up (a .poc) k) (leb (k .layer) bound) (and-right (not (a .old k)) side rest))
 
-  grows : (ks list out : List Key) → pass a up ks list ≡ took out → Grown a up (walked up ks) list out
+  one-more : (k : Key) (ks list out : List Key) → length list < a .limit → sideOf up (a .poc) k ≡ true → Grown a up ks (list ++ (k ∷ [])) out → Grown a up (k ∷ ks) list out
+  one-more k ks list out room t g =
+      record {
+        more = k ∷ g .more;
+        split = g .split ∙ append-assoc list (k ∷ []) (g .more);
+        inside = Sublistᴰ·cons-cons refl (g .inside);
+        on-side = holds-cons (λ x. sideOf up (a .poc) x ≡ true) t (g .on-side);
+        limited = λ h. g .limited (let n = length-append list (k ∷ []) in omega arith);
+      }
+
+  pub pass-grows : (p : Progress) (ks : List Key) → Grown a up ks (p .list) (passOn a up p ks .list)
+  unfolding passOn
+  pass-grows p [] = same (p .list)
+  pass-grows p (k ∷ ks) = go (takesKey a up (length (p .list)) (p .bound) k) refl (λ q. pass-grows q ks)
+    where
+      go : (t : Bool) → takesKey a up (length (p .list)) (p .bound) k ≡ t → ((q : Progress) → Grown a up ks (q .list) (passOn a up q ks .list))
+          → Grown a up (k ∷ ks) (p .list) (passOn a up (stepOn a up p k) ks .list)
+      go true t rest =
+          let s = taken-side (length (p .list)) (p .bound) k t in
+          rw (step-takes a up p k t) (one-more k ks (p .list) _ (s .0) (s .1) (rest (record { list = p .list ++ (k ∷ []); bound = a .after (k .layer) })))
+      go false t rest = rw (step-leaves a up p k t) (passed-by k ks (p .list) _ (rest p))
+
+  grows : (ks list : List Key) → Grown a up (walked up ks) list (pass a up ks list)
   unfolding pass
-  grows ks list out e = pass-grows list (a .start) (walked up ks) out e
+  grows ks list = pass-grows (record { list = list; bound = a .start }) (walked up ks)
+
+pub grows-at-end : GrowsAtEnd
+grows-at-end a up p ks = let g = pass-grows a up p ks in rw (g .split) (take-at (p .list) (g .more) (length (p .list)) refl)
 
 -- ---- one list
 
@@ -120,14 +125,10 @@ module _ (a : Ask) (up : Bool) (ks : List Key) {mid out : List Key} (g : Grown a
         few = (let e = ap length both-split ∙ length-append (g .more) (h .more) in let m = more-few a up ks g in let n = more-few a (not up) ks h in let s = sides-count up (a .poc) ks in omega arith);
       }
 
-both-taken : (a : Ask) (up : Bool) (ks out : List Key) → bothWays a up ks ≡ took out → Taken (a .limit) ks out
-both-taken a up ks out e = go (pass a up ks []) refl e
-  where
-    go : (first : Passed) → pass a up ks [] ≡ first → andThen first (pass a (not up) ks) ≡ took out → Taken (a .limit) ks out
-    go met-old f e = absurd (not-met e)
-    go (took mid) f e = two-passes a up ks (grows a up ks [] mid f) (grows a (not up) ks mid out e)
+both-taken : (a : Ask) (up : Bool) (ks : List Key) → Taken (a .limit) ks (bothWays a up ks)
+both-taken a up ks = two-passes a up ks (grows a up ks []) (grows a (not up) ks (pass a up ks []))
 
-pub list-taken : (a : Ask) (walk : Walk) (ks out : List Key) → listOf a walk ks ≡ took out → Taken (a .limit) ks out
-list-taken a Walk.Down ks out e = one-pass a false ks (grows a false ks [] out e)
-list-taken a Walk.DownThenUp ks out e = both-taken a false ks out e
-list-taken a Walk.UpThenDown ks out e = both-taken a true ks out e
+pub list-taken : (a : Ask) (walk : Walk) (ks : List Key) → Taken (a .limit) ks (listOf a walk ks)
+list-taken a Walk.Down ks = one-pass a false ks (grows a false ks [])
+list-taken a Walk.DownThenUp ks = both-taken a false ks
+list-taken a Walk.UpThenDown ks = both-taken a true ks

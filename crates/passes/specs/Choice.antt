@@ -10,7 +10,7 @@ use Rattle.def.specs.State.{listPlaces}
 use Rattle.def.specs.declared.{RefpCall.RefpCall, SliceType.SliceType, Refusal.Refusal}
 use Rattle.passes.specs.declared.Walk.{Walk}
 use Rattle.passes.specs.Order.{Key}
-use Rattle.passes.specs.Passes.{Passed, took, met-old, askOf, listOf}
+use Rattle.passes.specs.Passes.{askOf, listOf}
 
 pub data Chosen : Type 0 where
   turned-down : Refusal → Chosen
@@ -29,22 +29,20 @@ forwardWalk SliceType.«EVC_ST_I» = Walk.Down
 forwardWalk SliceType.«EVC_ST_P» = Walk.Down
 forwardWalk SliceType.«EVC_ST_B» = Walk.DownThenUp
 
-abbrev pub forwardOf : RefpCall → List Key → Passed
+abbrev pub forwardOf : RefpCall → List Key → List Key
 forwardOf c ks = listOf (askOf c) (forwardWalk (c .«slice_type»)) ks
 
 -- The backward list, of B alone: higher numbers upwards first, then lower ones downwards.
-abbrev pub backwardOf : RefpCall → List Key → Passed
+abbrev pub backwardOf : RefpCall → List Key → List Key
 backwardOf c ks = listOf (askOf c) Walk.UpThenDown ks
 
--- After the backward list: an old reference was met (10), the list is empty (12).
-abbrev pub withBackward : List Key → Passed → Chosen
-withBackward fwd met-old = turned-down Refusal.OldReference
-withBackward fwd (took bwd) = cond (eqb (length bwd) 0) (turned-down Refusal.BackwardListEmpty) (chosen fwd bwd)
+-- The backward list is empty (12), or both lists are chosen.
+abbrev pub withBackward : List Key → List Key → Chosen
+withBackward fwd bwd = cond (eqb (length bwd) 0) (turned-down Refusal.BackwardListEmpty) (chosen fwd bwd)
 
--- After the forward list: an old reference was met (10), the list is empty (11), and then, for B, the backward list.
-abbrev pub withForward : Bool → Passed → Passed → Chosen
-withForward both bwd met-old = turned-down Refusal.OldReference
-withForward both bwd (took fwd) =
+-- The forward list is empty (11), and then, for B, the backward list.
+abbrev pub withForward : Bool → List Key → List Key → Chosen
+withForward both bwd fwd =
     cond (eqb (length fwd) 0) (turned-down Refusal.ForwardListEmpty) (cond both (withBackward fwd bwd) (chosen fwd []))
 
 -- More than 21 are marked (8), none is marked (9), and then the lists. Slice I asks for no list and does not come here.
@@ -58,13 +56,13 @@ choice c ks =
 
 -- The backward list of B, or none.
 pub data Backward (c : RefpCall) (ks bwd : List Key) : Type 0 where
-  of-b : isB (c .«slice_type») ≡ true → backwardOf c ks ≡ took bwd → (length bwd ≡ 0 → ⊥) → Backward c ks bwd
+  of-b : isB (c .«slice_type») ≡ true → backwardOf c ks ≡ bwd → (length bwd ≡ 0 → ⊥) → Backward c ks bwd
   of-other : isB (c .«slice_type») ≡ false → bwd ≡ [] → Backward c ks bwd
 
 -- From 1 to 21 are marked, the forward list is what its passes come to and has an entry, and so has the backward list of B.
 pub record Accepted (c : RefpCall) (ks fwd bwd : List Key) : Type 0 where
   pub at-most : length ks ≤ listPlaces
   pub some : length ks ≡ 0 → ⊥
-  pub forward-is : forwardOf c ks ≡ took fwd
+  pub forward-is : forwardOf c ks ≡ fwd
   pub forward-some : length fwd ≡ 0 → ⊥
   pub backward-is : Backward c ks bwd

@@ -1,10 +1,19 @@
--- What is claimed of the order. A second way to build it rests on the first two. Proofs: proofs/OrderLaws.antt.
+-- What is claimed of the order and of a pass over it. A second way to build the lists, and whoever asks why a picture is not in one, rest on
+-- these. Proofs: proofs/OrderLaws.antt, proofs/PassLaws.antt, proofs/Taken.antt.
 -- Assumes nothing.
+use Prim.Native.Nat.{_≤_}
 use mathlib.Core.Path.{_≡_}
-use mathlib.Core.List.{List, List·Memᴰ, List·Permᴰ}
+use mathlib.Core.Bool.{Bool, false, not}
+use mathlib.Core.List.{List, _++_, List·Memᴰ, List·Permᴰ}
 use mathlib.Core.Logic.{_↔_}
+use lib.ListN.{length, take}
+use Rattle.seq.specs.Lists.{select}
 use Rattle.def.specs.declared.{Slot.Slot}
+use Rattle.passes.specs.declared.Walk.{Walk}
 use Rattle.passes.specs.Order.{Key, keysFrom, down, InOrder, MarkedKey}
+use Rattle.passes.specs.Passes.{Ask, Progress, passOn, listOf}
+
+-- ---- the order
 
 -- A permutation of the keys of the marked slots that stands in order, equal numbers by slot, is the order.
 abbrev pub OrderIsOne : Type 0
@@ -17,3 +26,35 @@ DownMembers = (xs : List Slot) (k : Key) → List·Memᴰ k (down xs) ↔ Marked
 -- The order stands in order and is such a permutation.
 abbrev pub DownInOrder : Type 0
 DownInOrder = (xs : List Slot) → InOrder (down xs) × List·Permᴰ (down xs) (keysFrom 0 xs)
+
+-- ---- a pass, from every list and every bound
+
+-- Over two parts it is the pass over the first and then over the second.
+abbrev pub PassAppends : Type 0
+PassAppends = (a : Ask) (up : Bool) (p : Progress) (ks hs : List Key) → passOn a up p (ks ++ hs) ≡ passOn a up (passOn a up p ks) hs
+
+-- A full list stays as it is, and the bound too.
+abbrev pub FullStays : Type 0
+FullStays = (a : Ask) (up : Bool) (p : Progress) (ks : List Key) → a .limit ≤ length (p .list) → passOn a up p ks ≡ p
+
+-- A list only grows at its end.
+abbrev pub GrowsAtEnd : Type 0
+GrowsAtEnd = (a : Ask) (up : Bool) (p : Progress) (ks : List Key) → take (length (p .list)) (passOn a up p ks .list) ≡ p .list
+
+-- ---- passing over is leaving out
+
+-- The request without the age test.
+abbrev pub ageless : Ask → Ask
+ageless a = record { limit = a .limit; poc = a .poc; old = λ _. false; start = a .start; after = a .after }
+
+-- The order less its old pictures.
+abbrev pub young : Ask → List Key → List Key
+young a ks = select (λ k. not (a .old k)) ks
+
+-- A pass is the pass without the age test over the order less its old pictures.
+abbrev pub PassingOver : Type 0
+PassingOver = (a : Ask) (up : Bool) (p : Progress) (ks : List Key) → passOn a up p ks ≡ passOn (ageless a) up p (young a ks)
+
+-- So is every list.
+abbrev pub ListsPassOver : Type 0
+ListsPassOver = (a : Ask) (walk : Walk) (ks : List Key) → listOf a walk ks ≡ listOf (ageless a) walk (young a ks)

@@ -9,9 +9,9 @@ use lib.ListN.{length, take, drop}
 use Rattle.seq.specs.Lists.{count}
 use Rattle.def.specs.State.{slots, listPlaces}
 use Rattle.def.specs.declared.Answer.{Answer}
-use Rattle.passes.specs.declared.{PassRule.PassRule, PassEnd.PassEnd}
+use Rattle.passes.specs.declared.PassRule.{PassRule}
 use Rattle.passes.specs.Order.{Key}
-use Rattle.passes.specs.Passes.{Ask, Passed, took, met-old, below, sideOf, pass}
+use Rattle.passes.specs.Passes.{Ask, below, sideOf, pass}
 use Rattle.passes.specs.Choice.{Chosen, turned-down, chosen}
 
 -- ---- keys
@@ -52,15 +52,6 @@ pub record SameAsk (a b : Ask) : Type 0 where
 
 -- ---- what a pass leaves
 
--- What a pass comes to, its entries read from the array.
-abbrev pub endIn : PassEnd → List ℕ → Passed
-endIn (PassEnd.Took n) ns = took (keysIn n ns)
-endIn PassEnd.MetOld ns = met-old
-
-abbrev pub entriesIn : PassEnd → ℕ
-entriesIn (PassEnd.Took n) = n
-entriesIn PassEnd.MetOld = 0
-
 -- Both arrays have their lengths, and the list has room for each key of the side that the pass takes.
 pub record PassRoom (pics : List ℕ) (num : ℕ) (list : List ℕ) (from cnt : ℕ) (rule : PassRule) (up : Bool) : Type 0 where
   pub keys-long : length pics ≡ slots
@@ -69,12 +60,12 @@ pub record PassRoom (pics : List ℕ) (num : ℕ) (list : List ℕ) (from cnt : 
   pub starts : from ≤ listPlaces
   pub room : cnt + count (sideOf up (rule .poc)) (keysIn num pics) ≤ listPlaces
 
--- The list from `from` on is what the pass comes to; what stands before it is untouched.
-pub record PassDone (end : PassEnd) (ks : List Key) (before after : List ℕ) (from cnt : ℕ) (rule : PassRule) (up : Bool) : Type 0 where
-  pub comes-to : endIn end (drop from after) ≡ pass (askIn rule) up ks (keysIn cnt (drop from before))
+-- The first `n` entries from `from` on are the list after the pass; what stands before them is untouched.
+pub record PassDone (n : ℕ) (ks : List Key) (before after : List ℕ) (from cnt : ℕ) (rule : PassRule) (up : Bool) : Type 0 where
+  pub comes-to : keysIn n (drop from after) ≡ pass (askIn rule) up ks (keysIn cnt (drop from before))
   pub kept : take from after ≡ take from before
   pub list-long : length after ≡ listPlaces + listPlaces
-  pub counted : entriesIn end ≤ cnt + count (sideOf up (rule .poc)) ks
+  pub counted : n ≤ cnt + count (sideOf up (rule .poc)) ks
 
 pub record PassesRoom (pics : List ℕ) (num : ℕ) (list : List ℕ) (from : ℕ) : Type 0 where
   pub keys-long : length pics ≡ slots
@@ -83,11 +74,11 @@ pub record PassesRoom (pics : List ℕ) (num : ℕ) (list : List ℕ) (from : �
   pub starts : from ≤ listPlaces
 
 -- The same of the passes of one list.
-pub record PassesDone (end : PassEnd) (wanted : Passed) (num : ℕ) (before after : List ℕ) (from : ℕ) : Type 0 where
-  pub comes-to : endIn end (drop from after) ≡ wanted
+pub record PassesDone (n : ℕ) (wanted : List Key) (num : ℕ) (before after : List ℕ) (from : ℕ) : Type 0 where
+  pub comes-to : keysIn n (drop from after) ≡ wanted
   pub kept : take from after ≡ take from before
   pub list-long : length after ≡ listPlaces + listPlaces
-  pub counted : entriesIn end ≤ num
+  pub counted : n ≤ num
 
 -- ---- what was chosen
 

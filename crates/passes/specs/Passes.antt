@@ -2,12 +2,12 @@
 -- Assumes nothing.
 use Prim.Native.Nat.{ℕ, _-_, max}
 use mathlib.Core.Bool.{Bool, true, false, cond, not, _&&_}
-use mathlib.Core.List.{List, [], _∷_, _++_, reverse}
+use mathlib.Core.List.{List, [], _∷_, _++_, reverse, foldl}
 use lib.Dec.{leb, ltb, eqb}
 use lib.IntN.{ℤ, pos, negsuc}
 use lib.ListN.{length}
 use Rattle.def.specs.declared.{RefpCall.RefpCall, SliceType.SliceType}
-use Rattle.passes.specs.declared.Walk.{Walk}
+use Rattle.passes.specs.declared.{Turn.Turn, Walk.Walk}
 use Rattle.passes.specs.Order.{Key}
 
 -- ---- what a slice asks
@@ -48,7 +48,7 @@ abbrev pub isOld : ℤ → ℕ → Key → Bool
 isOld (pos intra) poc k = leb intra poc && ltb (k .poc) intra
 isOld (negsuc n) poc k = false
 
--- A request: the list limit, the current number, which pictures the age test meets, and the bounds.
+-- A request: the list limit, the current number, which pictures are old where the age test applies, and the bounds.
 pub record Ask : Type 0 where
   pub limit : ℕ
   pub poc : ℕ
@@ -78,38 +78,41 @@ walked up ks = cond up (reverse ks) ks
 abbrev pub sideOf : Bool → ℕ → Key → Bool
 sideOf up poc k = cond up (ltb poc (k .poc)) (ltb (k .poc) poc)
 
-abbrev pub takesKey : Bool → ℕ → ℕ → Key → Bool
-takesKey up poc bound k = sideOf up poc k && leb (k .layer) bound
+-- A picture is taken if the list is not full, the picture is not old and stands on the side of the pass, and its layer is within the bound.
+abbrev pub takesKey : Ask → Bool → ℕ → ℕ → Key → Bool
+takesKey a up cnt bound k = ltb cnt (a .limit) && (not (a .old k) && (sideOf up (a .poc) k && leb (k .layer) bound))
 
--- What a pass comes to: the list with what it took at its end, or an old reference that it met.
-pub data Passed : Type 0 where
-  took : List Key → Passed
-  met-old : Passed
+-- One step from so many entries and a bound: whether the picture is taken, and the bound after it. A picture that is not taken leaves the bound.
+abbrev pub passStep : Ask → Bool → ℕ → ℕ → Key → Turn
+passStep a up cnt bound k = let takes = takesKey a up cnt bound k in record { taken = takes; bound = cond takes (a .after (k .layer)) bound }
 
--- A pass stops when the list is full; meeting an old reference ends it; it takes what stands on its side within the bound.
-unfoldable pub passOn : Ask → Bool → List Key → ℕ → List Key → Passed
-passOn a up list bound [] = took list
-passOn a up list bound (k ∷ ks) =
-    let takes = takesKey up (a .poc) bound k in
-    let rest = passOn a up (cond takes (list ++ (k ∷ [])) list) (cond takes (a .after (k .layer)) bound) ks in
-    cond (leb (a .limit) (length list)) (took list) (cond (a .old k) met-old rest)
+-- How far a pass has come: the list so far, and the bound.
+pub record Progress : Type 0 where
+  pub list : List Key
+  pub bound : ℕ
+
+-- What is taken goes to the end of the list; any other picture is passed over.
+abbrev pub stepOn : Ask → Bool → Progress → Key → Progress
+stepOn a up p k =
+    let turn = passStep a up (length (p .list)) (p .bound) k in
+    record { list = cond (turn .taken) (p .list ++ (k ∷ [])) (p .list); bound = turn .bound }
+
+-- A pass from there on: step by step over the pictures, in the order of the walk.
+unfoldable pub passOn : Ask → Bool → Progress → List Key → Progress
+passOn a up p ks = foldl (stepOn a up) p ks
 
 -- The bound is reset at the start of each pass.
-unfoldable pub pass : Ask → Bool → List Key → List Key → Passed
+unfoldable pub pass : Ask → Bool → List Key → List Key → List Key
 unfolding passOn
-pass a up ks list = passOn a up list (a .start) (walked up ks)
+pass a up ks list = passOn a up (record { list = list; bound = a .start }) (walked up ks) .list
 
 -- ---- one list
 
--- One pass, and then another on its list.
-abbrev pub andThen : Passed → (List Key → Passed) → Passed
-andThen (took list) next = next list
-andThen met-old next = met-old
+-- One pass, and then one in the other direction on its list.
+abbrev pub bothWays : Ask → Bool → List Key → List Key
+bothWays a up ks = pass a (not up) ks (pass a up ks [])
 
-abbrev pub bothWays : Ask → Bool → List Key → Passed
-bothWays a up ks = andThen (pass a up ks []) (pass a (not up) ks)
-
-abbrev pub listOf : Ask → Walk → List Key → Passed
+abbrev pub listOf : Ask → Walk → List Key → List Key
 listOf a Walk.Down ks = pass a false ks []
 listOf a Walk.DownThenUp ks = bothWays a false ks
 listOf a Walk.UpThenDown ks = bothWays a true ks

@@ -16,13 +16,12 @@ use Rattle.def.specs.declared.{Slot.Slot, EvcPm.EvcPm, EvcRefP.EvcRefP, RefpCal
 use Rattle.whole.specs.Whole.{whole}
 use Rattle.whole.specs.Laws.{whole-rules, rules-whole}
 use Rattle.passes.specs.Order.{Key, keyOf, down, MarkedKey}
-use Rattle.passes.specs.Passes.{Passed, took, met-old}
 use Rattle.passes.specs.Choice.{turned-down, chosen, isB, forwardOf, backwardOf, withBackward, withForward, choice, of-b, of-other, Accepted}
 use Rattle.passes.proofs.OrderLaws.{down-length, down-members, down-distinct}
 use Rattle.passes.proofs.Taken.{Taken}
 use Rattle.passes.proofs.Accepted.{forward-taken, backward-taken}
 use Rattle.refp.specs.Lists.{refused, counted, listed, settled, isI, listsWhole, lists}
-use Rattle.refp.specs.Claims.{Asked, SomeMarked, ForwardOfB, ListsReason, not-whole, too-high, too-many-marked, none-marked, forward-meets-old, backward-meets-old, forward-empty, backward-empty, Holds, Built, ListsWhy, ListsRefusedUnchanged, ListsStayWhole, OnlyCounts, ListsBuilt}
+use Rattle.refp.specs.Claims.{Asked, SomeMarked, ForwardOfB, ListsReason, not-whole, too-high, too-many-marked, none-marked, forward-empty, backward-empty, Holds, Built, ListsWhy, ListsRefusedUnchanged, ListsStayWhole, OnlyCounts, ListsBuilt}
 use Rattle.refp.proofs.Written.{TwoLists, both-long, forward-place, forward-rest, backward-place, backward-rest}
 
 -- ---- with the test of the state in front
@@ -47,6 +46,12 @@ module _ (pm : EvcPm) (refp : List EvcRefP) (c : RefpCall) where
   abbrev order : List Key
   order = down (pm .pic)
 
+  abbrev fwd : List Key
+  fwd = forwardOf c order
+
+  abbrev bwd : List Key
+  bwd = backwardOf c order
+
   module _ (m : SomeMarked pm c) where
     few : length order ≤ listPlaces
     few = let h = m .at-most in let e = down-length (pm .pic) in omega arith
@@ -54,32 +59,29 @@ module _ (pm : EvcPm) (refp : List EvcRefP) (c : RefpCall) where
     some : length order ≡ 0 → ⊥
     some z = m .some (sym (down-length (pm .pic)) ∙ z)
 
-    module _ (fwd : List Key) (e : forwardOf c order ≡ took fwd) (n : length fwd ≡ 0 → ⊥) where
-      backward-ends : isB (c .«slice_type») ≡ true → (q : Passed) → backwardOf c order ≡ q → ListsEnd pm refp c (settled pm refp (withBackward fwd q))
-      backward-ends b met-old q = refuses Refusal.OldReference (backward-meets-old (record { marked = m; is-b = b; fwd = fwd; list-is = e; has-entry = n }) q)
-      backward-ends b (took bwd) q = pick (eqb (length bwd) 0) refl
+    module _ (n : length fwd ≡ 0 → ⊥) where
+      backward-ends : isB (c .«slice_type») ≡ true → ListsEnd pm refp c (settled pm refp (withBackward fwd bwd))
+      backward-ends b = pick (eqb (length bwd) 0) refl
         where
           pick : (z : Bool) → eqb (length bwd) 0 ≡ z → ListsEnd pm refp c (settled pm refp (cond z (turned-down Refusal.BackwardListEmpty) (chosen fwd bwd)))
           pick true z =
-              refuses Refusal.BackwardListEmpty
-              (backward-empty (record { marked = m; is-b = b; fwd = fwd; list-is = e; has-entry = n }) (q ∙ ap took (no-entry bwd (eqb-true (length bwd) 0 z))))
+              refuses Refusal.BackwardListEmpty (backward-empty (record { marked = m; is-b = b; has-entry = n }) (no-entry bwd (eqb-true (length bwd) 0 z)))
           pick false z =
               builds (m .asked) fwd bwd
-              (record { at-most = few; some = some; forward-is = e; forward-some = n; backward-is = of-b b q (eqb-false (length bwd) 0 z) })
+              (record { at-most = few; some = some; forward-is = refl; forward-some = n; backward-is = of-b b refl (eqb-false (length bwd) 0 z) })
 
-      forward-ends : (b : Bool) → isB (c .«slice_type») ≡ b → ListsEnd pm refp c (settled pm refp (cond b (withBackward fwd (backwardOf c order)) (chosen fwd [])))
-      forward-ends true b = backward-ends b (backwardOf c order) refl
+      forward-ends : (b : Bool) → isB (c .«slice_type») ≡ b → ListsEnd pm refp c (settled pm refp (cond b (withBackward fwd bwd) (chosen fwd [])))
+      forward-ends true b = backward-ends b
       forward-ends false b =
-          builds (m .asked) fwd [] (record { at-most = few; some = some; forward-is = e; forward-some = n; backward-is = of-other b refl })
+          builds (m .asked) fwd [] (record { at-most = few; some = some; forward-is = refl; forward-some = n; backward-is = of-other b refl })
 
-    passes-end : (p : Passed) → forwardOf c order ≡ p → ListsEnd pm refp c (settled pm refp (withForward (isB (c .«slice_type»)) (backwardOf c order) p))
-    passes-end met-old e = refuses Refusal.OldReference (forward-meets-old m e)
-    passes-end (took fwd) e = pick (eqb (length fwd) 0) refl
+    passes-end : ListsEnd pm refp c (settled pm refp (withForward (isB (c .«slice_type»)) bwd fwd))
+    passes-end = pick (eqb (length fwd) 0) refl
       where
         pick : (z : Bool) → eqb (length fwd) 0 ≡ z
-            → ListsEnd pm refp c (settled pm refp (cond z (turned-down Refusal.ForwardListEmpty) (cond (isB (c .«slice_type»)) (withBackward fwd (backwardOf c order)) (chosen fwd []))))
-        pick true z = refuses Refusal.ForwardListEmpty (forward-empty m (e ∙ ap took (no-entry fwd (eqb-true (length fwd) 0 z))))
-        pick false z = forward-ends fwd e (eqb-false (length fwd) 0 z) (isB (c .«slice_type»)) refl
+            → ListsEnd pm refp c (settled pm refp (cond z (turned-down Refusal.ForwardListEmpty) (cond (isB (c .«slice_type»)) (withBackward fwd bwd) (chosen fwd []))))
+        pick true z = refuses Refusal.ForwardListEmpty (forward-empty m (no-entry fwd (eqb-true (length fwd) 0 z)))
+        pick false z = forward-ends (eqb-false (length fwd) 0 z) (isB (c .«slice_type»)) refl
 
   choice-ends : Asked pm c → ListsEnd pm refp c (settled pm refp (choice c order))
   unfolding choice
@@ -90,7 +92,7 @@ module _ (pm : EvcPm) (refp : List EvcRefP) (c : RefpCall) where
 
       pick : (m : Bool) → ltb listPlaces (length order) ≡ m → (z : Bool) → eqb (length order) 0 ≡ z
           → ListsEnd pm refp c (settled pm refp (cond m (turned-down Refusal.TooManyReferences)
-          (cond z (turned-down Refusal.NoReferences) (withForward (isB (c .«slice_type»)) (backwardOf c order) (forwardOf c order)))))
+          (cond z (turned-down Refusal.NoReferences) (withForward (isB (c .«slice_type»)) bwd fwd))))
       pick true m z n = refuses Refusal.TooManyReferences (too-many-marked a (let h = ltb-true listPlaces (length order) m in let e = marked-length in omega arith))
       pick false m true n = refuses Refusal.NoReferences (none-marked a (sym marked-length ∙ eqb-true (length order) 0 n))
       pick false m false n =
@@ -100,7 +102,6 @@ module _ (pm : EvcPm) (refp : List EvcRefP) (c : RefpCall) where
             at-most = (let h = ltb-false listPlaces (length order) m in let e = marked-length in omega arith);
             some = λ z. eqb-false (length order) 0 n (marked-length ∙ z);
           })
-          (forwardOf c order) refl
 
   pub lists-end : ListsEnd pm refp c (lists pm refp c)
   unfolding lists listsWhole
@@ -120,12 +121,12 @@ module _ (pm : EvcPm) (refp : List EvcRefP) (c : RefpCall) where
   unfolding lists listsWhole
   asked-answer a = rw (a .is-whole, le-ltb highestPoc (c .poc) (a .number-fits), a .not-i)
 
-  marked-answer : SomeMarked pm c → lists pm refp c ≡ settled pm refp (withForward (isB (c .«slice_type»)) (backwardOf c order) (forwardOf c order))
+  marked-answer : SomeMarked pm c → lists pm refp c ≡ settled pm refp (withForward (isB (c .«slice_type»)) bwd fwd)
   unfolding choice
   marked-answer m = asked-answer (m .asked) ∙ rw (le-ltb listPlaces (length order) (few m), ne-eqb (length order) 0 (some m))
 
-  forward-answer : (f : ForwardOfB pm c) → lists pm refp c ≡ settled pm refp (withBackward (f .fwd) (backwardOf c order))
-  forward-answer f = marked-answer (f .marked) ∙ rw (f .list-is, ne-eqb (length (f .fwd)) 0 (f .has-entry), f .is-b)
+  forward-answer : (f : ForwardOfB pm c) → lists pm refp c ≡ settled pm refp (withBackward fwd bwd)
+  forward-answer f = marked-answer (f .marked) ∙ rw (ne-eqb (length fwd) 0 (f .has-entry), f .is-b)
 
   pub reason-refuses : {why : Refusal} → ListsReason pm c why → lists pm refp c ≡ refused why pm refp
   unfolding lists listsWhole choice
@@ -135,8 +136,6 @@ module _ (pm : EvcPm) (refp : List EvcRefP) (c : RefpCall) where
   reason-refuses (none-marked a z) =
       let e : length order ≡ 0 = down-length (pm .pic) ∙ z in
       asked-answer a ∙ rw (le-ltb listPlaces (length order) (omega arith), eq-eqb (length order) 0 e)
-  reason-refuses (forward-meets-old m e) = marked-answer m ∙ rw e
-  reason-refuses (backward-meets-old f e) = forward-answer f ∙ rw e
   reason-refuses (forward-empty m e) = marked-answer m ∙ rw e
   reason-refuses (backward-empty f e) = forward-answer f ∙ rw e
 

@@ -11,7 +11,6 @@ use Rattle.def.specs.State.{listPlaces, highestPoc, noRefP, isMarked, withCount
 use Rattle.def.specs.declared.{EvcPm.EvcPm, EvcRefP.EvcRefP, RefpCall.RefpCall, RefpResult.RefpResult, Answer.Answer, Refusal.Refusal}
 use Rattle.whole.specs.Whole.{whole}
 use Rattle.passes.specs.Order.{Key, down, MarkedKey}
-use Rattle.passes.specs.Passes.{took, met-old}
 use Rattle.passes.specs.Choice.{isB, forwardOf, backwardOf, Accepted}
 use Rattle.refp.specs.Lists.{entryOf, dropped, isI, refused, lists}
 use Rattle.refp.specs.Copy.{firstEntries, copy}
@@ -34,19 +33,15 @@ pub record SomeMarked (pm : EvcPm) (c : RefpCall) : Type 0 where
 pub record ForwardOfB (pm : EvcPm) (c : RefpCall) : Type 0 where
   pub marked : SomeMarked pm c
   pub is-b : isB (c .«slice_type») ≡ true
-  pub fwd : List Key
-  pub list-is : forwardOf c (down (pm .pic)) ≡ took fwd
-  pub has-entry : length fwd ≡ 0 → ⊥
+  pub has-entry : length (forwardOf c (down (pm .pic))) ≡ 0 → ⊥
 
 pub data ListsReason (pm : EvcPm) (c : RefpCall) : Refusal → Type 0 where
   not-whole : whole pm ≡ false → ListsReason pm c Refusal.StateNotWhole
   too-high : whole pm ≡ true → highestPoc < c .poc → ListsReason pm c Refusal.NumberTooHigh
   too-many-marked : Asked pm c → listPlaces < count isMarked (pm .pic) → ListsReason pm c Refusal.TooManyReferences
   none-marked : Asked pm c → count isMarked (pm .pic) ≡ 0 → ListsReason pm c Refusal.NoReferences
-  forward-meets-old : SomeMarked pm c → forwardOf c (down (pm .pic)) ≡ met-old → ListsReason pm c Refusal.OldReference
-  backward-meets-old : ForwardOfB pm c → backwardOf c (down (pm .pic)) ≡ met-old → ListsReason pm c Refusal.OldReference
-  forward-empty : SomeMarked pm c → forwardOf c (down (pm .pic)) ≡ took [] → ListsReason pm c Refusal.ForwardListEmpty
-  backward-empty : ForwardOfB pm c → backwardOf c (down (pm .pic)) ≡ took [] → ListsReason pm c Refusal.BackwardListEmpty
+  forward-empty : SomeMarked pm c → forwardOf c (down (pm .pic)) ≡ [] → ListsReason pm c Refusal.ForwardListEmpty
+  backward-empty : ForwardOfB pm c → backwardOf c (down (pm .pic)) ≡ [] → ListsReason pm c Refusal.BackwardListEmpty
 
 abbrev pub ListsWhy : Type 0
 ListsWhy = (pm : EvcPm) (refp : List EvcRefP) (c : RefpCall) (why : Refusal) → (lists pm refp c .answer ≡ Answer.Refused why) ↔ ListsReason pm c why

@@ -1,7 +1,7 @@
 // Runs stored inputs, each from the new machine, and writes what they are answered.
 //
 // What `stdout` has for them was not made by this program: the answers to the frames, the bad lines and the lines' ends were written from
-// the specification, those to the sessions come from the original Rust (`oracle answers`).
+// the specification, those to the sessions come from the original Rust wherever it decides (`oracle answers`).
 use libc::STDOUT_FILENO;
 
 fn replay(path: &[u8]) {
@@ -15,8 +15,12 @@ fn replay(path: &[u8]) {
 }
 
 fn main() {
-    // P at 8, layer 0, last intra 4, marked 0 and 4: limit 1 gives one entry, limit 2 meets the old reference.
+    // P at 8, layer 0, last intra 4, marked 0 and 4: limit 1 gives one entry, and so does limit 2, which passes over the old reference.
     replay(b"old_reference");
+    // B at 8, last intra 4, marked 0 and 12: going up the old one comes first, and the walk goes on behind it.
+    replay(b"old_on_the_way_up");
+    // B at 5, layer 3, last intra 2, marked 1 of layer 0 and 9 of layer 2: the old one leaves the bound alone.
+    replay(b"old_leaves_the_bound");
     // 21 marked pictures are listed; with 22 the lists are refused.
     replay(b"many_references");
     // A second IDR reference finds slot 0 occupied.

@@ -9,6 +9,7 @@ use lib.Dec.{leb}
 use lib.ListN.{length, length-map}
 use borrow.Author.Tests.{leb-true, le-leb}
 use Rattle.seq.specs.All.{and-left, and-right, and-both}
+use Rattle.def.proofs.Refusals.{refusals-in-use}
 use Rattle.def.specs.State.{slots}
 use Rattle.def.specs.declared.{EvcPm.EvcPm, EvcPoc.EvcPoc}
 use Rattle.def.specs.declared.Answer.the-variants.{Refused}
@@ -82,7 +83,7 @@ module _ {m : Machine} {keys rows : List ℕ} {s : Scalars} (taken : TakenMachin
 
           pick : (w : Bool) → whole (m .pm) ≡ w → whole (m .pm) ≡ true
           pick true f = f
-          pick false f = absurd (accepted (rw (seven f) (omega arith, omega arith)))
+          pick false f = absurd (accepted (rw (seven f) (refusals-in-use StateNotWhole)))
 
       reached : machineIn keys′ rows′ (r .scalars) ≡ step m call .machine
       reached = made .machine-is ∙ ap (λ (n : Machine). step n call .machine) (same-machine was-whole)

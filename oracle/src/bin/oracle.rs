@@ -13,6 +13,7 @@ use oracle::papers::{self, whole::RULES};
 use oracle::rng::Rng;
 use oracle::running::library;
 use oracle::runs::{exhaustive, frames, images, running, sequences, states, tables};
+use oracle::samples::Why;
 use oracle::{children, lines, watch};
 use std::io::{self, BufRead, Write};
 use std::process::ExitCode;
@@ -88,8 +89,11 @@ fn compare(options: &Options) -> Result<u8, String> {
         println!("not met, so this run says too little: {}", missing.join("; "));
         return Ok(1);
     }
-    let Coverage { judged_by_rust, no_counterpart, .. } = judge.coverage;
+    let Coverage { judged_by_rust, no_counterpart, less_old, .. } = judge.coverage;
+    let (met_old, listed) = judge.coverage.met_old();
     println!("{judged_by_rust} calls were decided by the Rust: answer and image agree with it in every byte;");
+    println!("{met_old} met an old reference, where the definition decides, and agree with it; of the {listed} accepted");
+    println!("  among them, {less_old} have the lists of the Rust without its age test on the state less its old marks;");
     println!("{no_counterpart} were accepted on lists that the Rust cannot hold and agree with document 01;");
     println!("the others were turned down with document 01's number and changed nothing.");
     println!("{calls} calls, 0 differences");
@@ -134,14 +138,18 @@ fn phase(judge: &Judge, what: &str) {
 fn run_children(judge: &Judge) -> Result<(), Difference> {
     println!("the original alone, in child processes, where document 01 says that it does not answer:");
     for kept in &judge.samples.kept {
-        let ran = children::run(kept).map_err(|why| Difference(format!("refusal {}: {why}", kept.refusal)))?;
-        let fate = children::fate_words(kept.refusal);
-        println!("  refusal {:>2}: {fate} in {ran} of {ran}, chosen from {} met", kept.refusal, kept.met);
+        let reason = match kept.why {
+            Why::Refused(refusal) => format!("refusal {refusal:>2}"),
+            Why::OldMet => "an old reference met".to_string(),
+        };
+        let ran = children::run(kept).map_err(|why| Difference(format!("{reason}: {why}")))?;
+        let fate = children::fate_words(kept.why);
+        println!("  {reason}: {fate} in {ran} of {ran}, chosen from {} met", kept.met);
     }
     Ok(())
 }
 
-/// Answers by the original where it decides, by document 01 elsewhere.
+/// Answers by the original where it decides, by the papers elsewhere.
 fn answers() -> io::Result<()> {
     let (mut original, mut machine) = (Original::default(), Machine::default());
     let mut out = io::BufWriter::new(io::stdout().lock());
@@ -149,8 +157,12 @@ fn answers() -> io::Result<()> {
         let reply = match lines::call_of(&line?) {
             None => Reply::BAD,
             Some(call) => {
+                let met_old = papers::meets_old(&machine, &call);
                 let by_papers = papers::call(&mut machine, &call);
-                let decides = papers::rust_decides(&by_papers);
+                let decides = papers::rust_decides(&by_papers, met_old);
+                if met_old && by_papers.is_ok() {
+                    original = Original::from_machine(&machine).expect("a run's lists are the Rust's too");
+                }
                 Reply::new(call.code(), if decides { original.call(&call) } else { by_papers })
             }
         };

@@ -64,8 +64,8 @@ impl LineMaker {
             return self.push_damaged(out);
         }
         let call = self.group.next(&mut self.rng, &self.machine);
-        // What would be turned down is left out; the group goes on without it.
-        if papers::call(&mut self.machine, &call).is_ok() {
+        // What would be turned down is left out, and what the original would not answer; the group goes on without it.
+        if !self.hangs(&call) && papers::call(&mut self.machine, &call).is_ok() {
             push_line(out, &call.bytes());
         } else {
             self.push_damaged(out);
@@ -96,7 +96,15 @@ impl LineMaker {
         }
     }
 
+    /// An old reference is met, and the original is to answer.
+    fn hangs(&self, call: &Call) -> bool {
+        self.refusals == Refusals::Few && papers::meets_old(&self.machine, call)
+    }
+
     fn fits(&mut self, call: &Call, outcome: &Outcome) -> bool {
+        if self.hangs(call) {
+            return false;
+        }
         match (outcome, self.refusals) {
             (Ok(Answer::NotYet | Answer::NoMore), _) => self.rng.chance(32),
             (Ok(_), _) => !fills_the_store(call, &self.machine),

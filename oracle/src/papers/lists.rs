@@ -1,4 +1,4 @@
-//! "Lists": the marked pictures that the two reference lists of a slice hold.
+//! "Lists": the marked pictures that the two reference lists of a slice hold, old ones passed over (document 02).
 
 use super::whole::whole;
 use super::MAX_POC;
@@ -10,49 +10,113 @@ const SLICE_P: u8 = 2;
 const SLICE_B: u8 = 3;
 
 pub fn lists(machine: &mut Machine, request: &Lists) -> Outcome {
-    if !whole(machine) {
-        return Err(7);
-    }
-    if request.poc > MAX_POC {
-        return Err(6);
-    }
-    if request.slice_type != SLICE_I {
-        let (forward, backward) = taken(machine, request)?;
+    if asks_for_lists(machine, request)? {
+        let (forward, backward) = Walks::new(machine, request).taken()?;
         write(machine, 0, &forward);
         write(machine, 1, &backward);
     }
     Ok(Answer::Counts(machine.num_refp[0], machine.num_refp[1]))
 }
 
-fn taken(machine: &Machine, request: &Lists) -> Result<(Vec<Slot>, Vec<Slot>), u8> {
-    let marked = machine.marked();
-    if marked > PLACES {
-        return Err(8);
+/// Whether a walk meets an old picture before its list is full. The Rust never returns from there, so document 02
+/// decides, which passes over the picture.
+pub fn meets_old(machine: &Machine, request: &Lists) -> bool {
+    if asks_for_lists(machine, request) != Ok(true) {
+        return false;
     }
-    if marked == 0 {
-        return Err(9);
-    }
-    let down = ordered(machine);
-    let up: Vec<Slot> = down.iter().rev().copied().collect();
-    let is_b = request.slice_type == SLICE_B;
+    let mut walks = Walks::new(machine, request);
+    let _ = walks.taken();
+    walks.met_old
+}
 
-    let mut forward = Vec::new();
-    pass(request, &down, Side::Lower, &mut forward)?;
-    if is_b {
-        pass(request, &up, Side::Higher, &mut forward)?;
+/// The same request with no age test, on the machine whose old pictures are unmarked: to pass over is to leave out.
+pub fn less_old(machine: &Machine, request: &Lists) -> (Machine, Lists) {
+    let mut left = machine.clone();
+    left.pic.iter_mut().filter(|slot| old(request, slot)).for_each(|slot| slot.is_ref = false);
+    left.cur_num_ref_pics = left.marked() as u8;
+    (left, Lists { last_intra: -1, ..*request })
+}
+
+/// Slice I asks for none.
+fn asks_for_lists(machine: &Machine, request: &Lists) -> Result<bool, u8> {
+    if !whole(machine) {
+        return Err(7);
     }
-    if forward.is_empty() {
-        return Err(11);
+    if request.poc > MAX_POC {
+        return Err(6);
     }
-    let mut backward = Vec::new();
-    if is_b {
-        pass(request, &up, Side::Higher, &mut backward)?;
-        pass(request, &down, Side::Lower, &mut backward)?;
-        if backward.is_empty() {
-            return Err(12);
+    Ok(request.slice_type != SLICE_I)
+}
+
+/// The marked pictures in both orders, and whether an old one was met on the way.
+struct Walks<'a> {
+    request: &'a Lists,
+    down: Vec<Slot>,
+    up: Vec<Slot>,
+    met_old: bool,
+}
+
+impl Walks<'_> {
+    fn new<'a>(machine: &Machine, request: &'a Lists) -> Walks<'a> {
+        let down = ordered(machine);
+        let up = down.iter().rev().copied().collect();
+        Walks { request, down, up, met_old: false }
+    }
+
+    fn taken(&mut self) -> Result<(Vec<Slot>, Vec<Slot>), u8> {
+        if self.down.len() > PLACES {
+            return Err(8);
+        }
+        if self.down.is_empty() {
+            return Err(9);
+        }
+        let is_b = self.request.slice_type == SLICE_B;
+        let mut forward = Vec::new();
+        self.pass(Side::Lower, &mut forward);
+        if is_b {
+            self.pass(Side::Higher, &mut forward);
+        }
+        if forward.is_empty() {
+            return Err(11);
+        }
+        let mut backward = Vec::new();
+        if is_b {
+            self.pass(Side::Higher, &mut backward);
+            self.pass(Side::Lower, &mut backward);
+            if backward.is_empty() {
+                return Err(12);
+            }
+        }
+        Ok((forward, backward))
+    }
+
+    /// One walk, down for the lower numbers and up for the higher ones: it stops when the list is full. An old
+    /// picture, where the age test applies, is left out and leaves the bound alone.
+    fn pass(&mut self, side: Side, list: &mut Vec<Slot>) {
+        let request = self.request;
+        let mut bound = first_bound(request);
+        let walk = match side {
+            Side::Lower => &self.down,
+            Side::Higher => &self.up,
+        };
+        for slot in walk {
+            if list.len() >= usize::from(request.limit) {
+                break;
+            }
+            if age_test_applies(request) && old(request, slot) {
+                self.met_old = true;
+                continue;
+            }
+            let on_side = match side {
+                Side::Lower => slot.poc < request.poc,
+                Side::Higher => slot.poc > request.poc,
+            };
+            if on_side && slot.temporal_id <= bound {
+                list.push(*slot);
+                bound = next_bound(request, slot);
+            }
         }
     }
-    Ok((forward, backward))
 }
 
 /// By number, highest first, equal numbers in slot order.
@@ -69,28 +133,6 @@ fn ordered(machine: &Machine) -> Vec<Slot> {
 enum Side {
     Lower,
     Higher,
-}
-
-/// One walk: it stops when the list is full, and meeting an old picture where the age test applies gives 10.
-fn pass(request: &Lists, walk: &[Slot], side: Side, list: &mut Vec<Slot>) -> Result<(), u8> {
-    let mut bound = first_bound(request);
-    for slot in walk {
-        if list.len() >= usize::from(request.limit) {
-            break;
-        }
-        if age_test_applies(request) && old(request, slot) {
-            return Err(10);
-        }
-        let on_side = match side {
-            Side::Lower => slot.poc < request.poc,
-            Side::Higher => slot.poc > request.poc,
-        };
-        if on_side && slot.temporal_id <= bound {
-            list.push(*slot);
-            bound = next_bound(request, slot);
-        }
-    }
-    Ok(())
 }
 
 fn old(request: &Lists, slot: &Slot) -> bool {

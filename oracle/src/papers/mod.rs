@@ -1,4 +1,5 @@
-//! Document 01 in plain Rust, by value and by its own words: which refusal each call gets, and what it leaves.
+//! Document 01, as document 02 amends it, in plain Rust, by value and by its own words: which refusal each call gets,
+//! and what it leaves.
 //! Written from the papers and not from the original, which it is compared with wherever the original decides.
 
 pub mod copy;
@@ -27,7 +28,12 @@ pub fn call(machine: &mut Machine, call: &Call) -> Outcome {
     }
 }
 
-/// Where the Rust decides: accepted calls, and those turned down with 1, 2 or 13.
-pub fn rust_decides(outcome: &Outcome) -> bool {
-    matches!(outcome, Ok(_) | Err(1 | 2 | 13))
+/// Where the Rust decides: accepted calls, and those turned down with 1, 2 or 13, unless an old reference is met.
+pub fn rust_decides(outcome: &Outcome, met_old: bool) -> bool {
+    !met_old && matches!(outcome, Ok(_) | Err(1 | 2 | 13))
+}
+
+/// Whether a list call meets an old reference, with which the Rust never returns.
+pub fn meets_old(machine: &Machine, call: &Call) -> bool {
+    matches!(call, Call::Lists(request) if lists::meets_old(machine, request))
 }

@@ -1,4 +1,5 @@
-//! Document 01's "Frames to check by hand" and its sample of the program, each against what the document says.
+//! Document 01's "Frames to check by hand" as document 02 amends them, and its sample of the program, each against
+//! what the documents say.
 
 use crate::call::{Call, Lists, Put};
 use crate::image::{Machine, Record, Slot};
@@ -8,14 +9,19 @@ use std::fmt::Debug;
 
 /// Gives how many frames there were.
 pub fn run(judge: &mut Judge) -> Verdict<usize> {
-    Ok(numbers(judge)? + marking(judge)? + lists(judge)? + limits(judge)? + sample(judge)?)
+    Ok(numbers(judge)?
+        + marking(judge)?
+        + lists(judge)?
+        + old_passed_over(judge)?
+        + limits(judge)?
+        + sample(judge)?)
 }
 
 fn hold<T: Debug + PartialEq>(what: &str, found: T, said: T) -> Verdict<()> {
     if found == said {
         return Ok(());
     }
-    Err(Difference(format!("frame {what}: found {found:?}, document 01 says {said:?}")))
+    Err(Difference(format!("frame {what}: found {found:?}, the papers say {said:?}")))
 }
 
 /// A derivation: its status and number, and the record after it.
@@ -96,8 +102,23 @@ fn lists(judge: &mut Judge) -> Verdict<usize> {
     let p = Lists { slice_type: 2, poc: 8, layer: 0, last_intra: 4, limit: 1 };
     let old = marked(&[(0, 0), (4, 0)]);
     hold("P at 8, limit 1", list(judge, &old, p)?, (0, [vec![4], vec![]]))?;
-    hold("P at 8, limit 2", list(judge, &old, Lists { limit: 2, ..p })?.0, 10)?;
+    hold("P at 8, limit 2", list(judge, &old, Lists { limit: 2, ..p })?, (0, [vec![4], vec![]]))?;
     Ok(3)
+}
+
+/// Document 02, M-100: an old reference is passed over.
+fn old_passed_over(judge: &mut Judge) -> Verdict<usize> {
+    let b = Lists { slice_type: 3, poc: 8, layer: 1, last_intra: 4, limit: 21 };
+    let found = list(judge, &marked(&[(0, 0), (12, 0)]), b)?;
+    hold("an old one does not stop the walk upwards", found, (0, [vec![12], vec![12]]))?;
+    let b = Lists { poc: 5, layer: 3, last_intra: 2, ..b };
+    let found = list(judge, &marked(&[(1, 0), (9, 2)]), b)?;
+    hold("an old one leaves the bound", found, (0, [vec![9], vec![9]]))?;
+    let p = Lists { slice_type: 2, poc: 8, layer: 0, last_intra: 4, limit: 21 };
+    hold("all old", list(judge, &marked(&[(0, 0)]), p)?.0, 11)?;
+    let found = list(judge, &marked(&[(0, 0)]), Lists { layer: 1, ..p })?;
+    hold("P above layer 0 has no age test", found, (0, [vec![0], vec![]]))?;
+    Ok(4)
 }
 
 fn limits(judge: &mut Judge) -> Verdict<usize> {
