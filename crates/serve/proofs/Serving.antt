@@ -8,7 +8,7 @@ use mathlib.Core.List.{List}
 use native.Mathlib.Omega.{arith}
 use borrow.Author.Tests.{leb-true}
 use lib.Dec.{leb}
-use lib.ListN.{replicate, length-replicate}
+use lib.ListN.{length, length-replicate}
 use Rattle.def.specs.State.{slots}
 use Rattle.keys.specs.Keys.{rowsLength}
 use Rattle.whole.specs.Whole.{whole}
@@ -37,11 +37,9 @@ new-runs s new = record {
 }
 
 -- The loop begins with room for an answer to each byte of a piece: by the two sizes, so that no list is counted.
-pub new-room : {s : Session} {tables : List ℕ} (n m : ℕ) → NewSession s → tables ≡ digitTables → leb (answerSize * n) m ≡ true → leb answerSize m ≡ true
-    → TurnRoom newKeys newRows s tables (replicate n 0) (replicate m 0)
-new-room {s} n m new e many one =
-    let piece = length-replicate {A = ℕ} n 0 in
-    let out = length-replicate {A = ℕ} m 0 in
+pub new-room : {s : Session} {tables : List ℕ} (piece out : List ℕ) {n m : ℕ} → NewSession s → tables ≡ digitTables → length piece ≡ n → length out ≡ m
+    → leb (answerSize * n) m ≡ true → leb answerSize m ≡ true → TurnRoom newKeys newRows s tables piece out
+new-room {s} piece out {n} {m} new e p o many one =
     let a = leb-true (answerSize * n) m many in
     let b = leb-true answerSize m one in
     record { sound = new-runs s new; tables-are = e; answers-fit = omega arith; answer-fits = omega arith }
