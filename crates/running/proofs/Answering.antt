@@ -1,21 +1,15 @@
 -- From what a call makes of keys, rows and scalars to what a line leaves of the three slices.
 -- Assumes nothing.
 use mathlib.Core.Path.{_≡_, refl, sym, ap, _∙_, subst}
-use mathlib.Core.Bool.{true, false, cond, _&&_, true≢false}
+use mathlib.Core.Bool.{true, false, true≢false}
 use mathlib.Core.List.{List}
 use Prim.Native.Nat.{ℕ}
-use native.Mathlib.Omega.{arith}
-use lib.Dec.{eqb, leb}
 use lib.ListN.{length}
-use borrow.Author.Tests.{eqb-true, leb-true, le-leb}
-use Rattle.seq.specs.All.{and-left, and-right, and-both}
-use Rattle.def.specs.State.{slots}
 use Rattle.def.specs.declared.EvcPoc.{EvcPoc}
-use Rattle.keys.specs.Keys.{rowsLength, Sized}
 use Rattle.keys.specs.declared.Rest.{Rest}
 use Rattle.line.specs.declared.{Call.Call, Line.Line, Reply.Reply}
 use Rattle.line.specs.Answers.{badLineReply}
-use Rattle.registers.specs.Registers.{registersLength, restOf, pocOf}
+use Rattle.registers.specs.Registers.{restOf, pocOf}
 use Rattle.machine.specs.declared.{Machine.Machine, Scalars.Scalars, Made.Made}
 use Rattle.machine.specs.Step.{step, stepLine}
 use Rattle.machine.specs.Running.{machineIn, Makes}

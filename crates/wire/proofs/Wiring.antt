@@ -10,7 +10,7 @@ use Rattle.line.specs.declared.{Line.Line, Reply.Reply}
 use Rattle.line.specs.Answers.{badLineReply}
 use Rattle.line.specs.Calls.{callFrom}
 use Rattle.machine.specs.Step.{stepLine}
-use Rattle.running.specs.Slices.{Slices, sized, machineAt, replyTo, Leaves}
+use Rattle.running.specs.Slices.{Slices, sized, replyTo, Leaves}
 use Rattle.wire.specs.Wire.{answerLength, answerBytes, lineIn, Wired}
 use Rattle.running.proofs.Answering.{Replied, same-leaves, wrong-size}
 
