@@ -184,8 +184,7 @@ static inline uint8_t picman_copy(picman_machine *m, uint64_t cnt, uint64_t lidx
 
 /* One call from the bytes of a call line, check byte too, not in hex. Writes the 8 bytes of the answer line (the call's byte,
  * 0 for a bad call; the status; the buffer number, 0xff where there is none; the value, 4 bytes, highest first; and the check
- * byte, which makes the sum of all eight 0), always, and
- * gives its status; bytes that are no call are answered as a bad line is, 18, and the machine stays as it was. */
+ * byte, which makes the sum of all eight 0), always, and gives its status; bytes that are no call are answered as a bad line is, 18, and the machine stays as it was. */
 static inline uint8_t picman_call_bytes(picman_machine *m, const uint8_t *call, size_t call_len,
                                         uint8_t answer[PICMAN_ANSWER]) {
     return picman_machine_call(PICMAN_PARTS(m), call, call_len, answer, PICMAN_ANSWER);
