@@ -1,7 +1,11 @@
-//! The proved picture manager: safe functions over the five of `include/picman.h`.
+//! The proved picture manager: safe functions over those of `include/picman.h`.
 //!
 //! An image holds a whole machine. Where a length or a flag byte does not fit, a function gives [`BAD`] and writes
-//! nothing; a call that is turned down, with a number from 1 to 18, leaves the image as it was.
+//! nothing; a call that is turned down, with a number from 1 to 19, leaves the image as it was.
+
+mod plan;
+
+pub use plan::{plan, PlanCall, PLAN, RECORD};
 
 /// Bytes of an image, of an answer and of a list entry.
 pub const IMAGE: usize = 6407;

@@ -1,4 +1,4 @@
-//! The five functions from Rust: document 01's example, refusals, sizes that don't fit, both depth tables.
+//! The functions on an image and the depths from Rust: document 01's example, refusals, sizes that don't fit, both depth tables.
 
 use picman::{ANSWER, BAD, ENTRY, IMAGE};
 

@@ -1,1 +1,2 @@
 pub mod Binary
+pub mod Claims

@@ -3,7 +3,7 @@
 use Prim.Native.Nat.{ℕ}
 use mathlib.Core.List.{List, [], _∷_}
 use Rattle.def.specs.declared.Refusal.{Refusal}
-use Rattle.def.specs.declared.Refusal.the-variants.{SizeTooBig, StoreFull, PictureLeased, NoLease, SlotTaken, NumberTooHigh, StateNotWhole, TooManyReferences, NoReferences, OldReference, ForwardListEmpty, BackwardListEmpty, SameNumber, NoSuchPlace, BadLayer, BadRecord, BadLength, BadLine}
+use Rattle.def.specs.declared.Refusal.the-variants.{SizeTooBig, StoreFull, PictureLeased, NoLease, SlotTaken, NumberTooHigh, StateNotWhole, TooManyReferences, NoReferences, OldReference, ForwardListEmpty, BackwardListEmpty, SameNumber, NoSuchPlace, BadLayer, BadRecord, BadLength, BadLine, BadPlan}
 
 abbrev pub refusalNumber : Refusal → ℕ
 refusalNumber SizeTooBig = 1
@@ -24,6 +24,11 @@ refusalNumber BadLayer = 15
 refusalNumber BadRecord = 16
 refusalNumber BadLength = 17
 refusalNumber BadLine = 18
+refusalNumber BadPlan = 19
+
+-- A call that is turned down gives a number from 1 to this one.
+abbrev pub highestRefusal : ℕ
+highestRefusal = 19
 
 -- The Rust's word: an error that it returns, or what happens to it instead; `added` where it has no such test.
 pub data RustWord : Type 0 where
@@ -49,3 +54,4 @@ rustWords BadLayer = added ∷ never-returns ∷ []
 rustWords BadRecord = added ∷ []
 rustWords BadLength = panics ∷ returns-filler ∷ added ∷ []
 rustWords BadLine = added ∷ []
+rustWords BadPlan = panics ∷ added ∷ []

@@ -86,6 +86,7 @@ pub enum Refusal {
     BadRecord,
     BadLength,
     BadLine,
+    BadPlan,
 }
 
 pub fn refusal_number(r: Refusal) -> u8
@@ -110,6 +111,7 @@ pub fn refusal_number(r: Refusal) -> u8
         Refusal::BadRecord => 16,
         Refusal::BadLength => 17,
         Refusal::BadLine => 18,
+        Refusal::BadPlan => 19,
     }
 }
 

@@ -9,6 +9,7 @@ use native.Mathlib.Omega.{arith}
 use lib.Dec.{leb, eqb}
 use lib.ListN.{length, getD, set}
 use mir.Val.{boolByte}
+use borrow.Author.Tests.{ne-eqb}
 use Rattle.seq.specs.Lists.{count, lowest, removeAt}
 use Rattle.seq.specs.All.{and-left}
 use Rattle.seq.specs.Lowest.{lowest-passes, any-found}
@@ -16,6 +17,7 @@ use Rattle.seq.specs.Changes.{getD-mem, remove-reordered, count-last}
 use Rattle.seq.specs.Tallies.{count-set}
 use Rattle.def.specs.declared.{Slot.Slot, EvcPm.EvcPm, EvcRefP.EvcRefP, PutCall.PutCall, RefpCall.RefpCall, PmResult.PmResult, Answer.Answer, Refusal.Refusal}
 use Rattle.def.specs.Refusals.{refusalNumber}
+use Rattle.def.proofs.Claims.{refusals-in-range}
 use Rattle.def.specs.State.{slots, newPic, emptySlot, noSlot, held, isWanted, isIdle, unmarked, handedOver}
 use Rattle.whole.specs.Whole.{heldBuffers}
 use Rattle.refp.specs.Lists.{lists}
@@ -51,24 +53,7 @@ Swapped old new xs ys = (p : Slot → Bool) → Blind p → count p ys + boolByt
 
 -- A refusal's status is not 0.
 pub refused-status : (why : Refusal) → eqb (refusalNumber why) 0 ≡ false
-refused-status Refusal.SizeTooBig = refl
-refused-status Refusal.StoreFull = refl
-refused-status Refusal.PictureLeased = refl
-refused-status Refusal.NoLease = refl
-refused-status Refusal.SlotTaken = refl
-refused-status Refusal.NumberTooHigh = refl
-refused-status Refusal.StateNotWhole = refl
-refused-status Refusal.TooManyReferences = refl
-refused-status Refusal.NoReferences = refl
-refused-status Refusal.OldReference = refl
-refused-status Refusal.ForwardListEmpty = refl
-refused-status Refusal.BackwardListEmpty = refl
-refused-status Refusal.SameNumber = refl
-refused-status Refusal.NoSuchPlace = refl
-refused-status Refusal.BadLayer = refl
-refused-status Refusal.BadRecord = refl
-refused-status Refusal.BadLength = refl
-refused-status Refusal.BadLine = refl
+refused-status why = let r = refusals-in-range why in let low = r .0 in ne-eqb (refusalNumber why) 0 (omega arith)
 
 -- ---- get
 

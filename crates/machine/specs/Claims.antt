@@ -1,19 +1,21 @@
 -- What holds of every call and every line: one that is turned down leaves state, lists and record as they were; a whole state stays whole;
--- so refusal 7 never follows in a run from the new machine. The proofs stand in proofs/EveryCall.antt.
+-- so refusal 7 never follows in a run from the new machine; 19 is the planner's, which has no call line. The proofs stand in proofs/EveryCall.antt.
 -- Assumes nothing.
 use Prim.Native.Nat.{_≤_}
 use mathlib.Core.Path.{_≡_}
 use mathlib.Core.Bool.{true}
 use lib.ListN.{length}
+use Rattle.def.specs.declared.Refusal.{Refusal}
+use Rattle.def.specs.Refusals.{refusalNumber, highestRefusal}
 use Rattle.def.specs.State.{slots}
 use Rattle.whole.specs.Whole.{whole}
 use Rattle.line.specs.declared.{Call.Call, Line.Line, Reply.Reply}
 use Rattle.machine.specs.declared.Machine.{Machine}
 use Rattle.machine.specs.Step.{newMachine, step, stepLine}
 
--- A status from 1 to 18.
+-- A status that is the number of a refusal.
 abbrev pub TurnedDown : Reply → Type 0
-TurnedDown r = (1 ≤ r .status) × (r .status ≤ 18)
+TurnedDown r = (1 ≤ r .status) × (r .status ≤ highestRefusal)
 
 abbrev pub CallUnchanged : Type 0
 CallUnchanged = (m : Machine) (c : Call) → TurnedDown (step m c .reply) → step m c .machine ≡ m
@@ -42,3 +44,10 @@ CallNotSeven = (m : Machine) (c : Call) → Sound m → step m c .reply .status 
 
 abbrev pub LineNotSeven : Type 0
 LineNotSeven = (m : Machine) (l : Line) → Sound m → stepLine m l .reply .status ≡ 7 → ⊥
+
+-- The planner is no call of a line, so on any machine none is answered with its 19: a line that is turned down gives 1 to 18.
+abbrev pub CallNotBadPlan : Type 0
+CallNotBadPlan = (m : Machine) (c : Call) → step m c .reply .status ≡ refusalNumber Refusal.BadPlan → ⊥
+
+abbrev pub LineNotBadPlan : Type 0
+LineNotBadPlan = (m : Machine) (l : Line) → stepLine m l .reply .status ≡ refusalNumber Refusal.BadPlan → ⊥

@@ -1,4 +1,4 @@
--- A function that turns its call down, with a number from 1 to 18, leaves the image as it was.
+-- A function that turns its call down, with the number of a refusal, leaves the image as it was.
 -- Assumes nothing.
 use mathlib.Core.Path.{_≡_, refl, ap, _∙_}
 use mathlib.Core.Bool.{Bool, true, false, cond, _&&_}
@@ -8,6 +8,7 @@ use native.Mathlib.Omega.{arith}
 use lib.Dec.{eqb}
 use lib.ListN.{length}
 use Rattle.seq.specs.All.{and-left}
+use Rattle.def.specs.Refusals.{highestRefusal}
 use Rattle.def.specs.declared.EvcRefP.{EvcRefP}
 use Rattle.def.specs.declared.CopyResult.{CopyResult}
 use Rattle.refp.proofs.CopyLaws.{copy-refused-unchanged}
@@ -22,9 +23,9 @@ use Rattle.picman_ffi.specs.Lent.{badLine, Left, left, Answered, answere
 use Rattle.picman_ffi.specs.Copied.{isEntry, copyInto, withLists, relisted, copied}
 use Rattle.picman_ffi.specs.Called.{answerLength, answerTo, renewed, called}
 
--- A number from 1 to 18.
+-- The number of a refusal.
 abbrev pub TurnedDown : ℕ → Type 0
-TurnedDown n = (1 ≤ n) × (n ≤ 18)
+TurnedDown n = (1 ≤ n) × (n ≤ highestRefusal)
 
 pub new-kept : (image : List ℕ) → TurnedDown (renewed image .given) → renewed image .image ≡ image
 unfolding renewed

@@ -1,4 +1,4 @@
-// The static library for C and Rust: five functions over lent bytes, thin over the crates below. Where a size or a flag byte does not fit,
+// The static library for C and Rust: six functions over lent bytes, thin over the crates below. Where a size or a flag byte does not fit,
 // a function gives 18 and writes nothing. In the contracts `given` says, byte for byte, what is given and what the lent buffers hold then;
 // `holds` says that the bytes are an image again, from which the next call reads the machine that this one left.
 
@@ -35,6 +35,8 @@ ghost use Rattle.picman_ffi.specs.Lent.{badLine, left, answered, machine
 ghost use Rattle.picman_ffi.specs.Called.{answerLength, answerBytes, renewed, replied, called};
 ghost use Rattle.picman_ffi.specs.Copied.{isEntry, copyInto, withLists, relisted, copied};
 ghost use Rattle.picman_ffi.specs.Depths.{depthOrZero};
+
+pub mod plan;
 
 // Where a size or a flag byte does not fit, and for a bad call: document 01's bad line.
 const BAD_LINE: u8 = 18;
