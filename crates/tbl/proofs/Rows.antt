@@ -3,8 +3,7 @@
 use Prim.Native.Nat.{ℕ, _+_, _*_, _/_, _%_, _<_, _≤_}
 use native.Mathlib.Omega.{arith}
 use mathlib.Core.Path.{_≡_, refl, sym, ap, _∙_, subst}
-use mathlib.Core.Bool.{Bool, true, false, cond, _&&_, _||_}
-use mathlib.Core.Logic.{_⊎_, inl, inr, ⊎-elim}
+use mathlib.Core.Bool.{Bool, true, false, cond, _&&_, _||_, false≢true}
 use lib.Dec.{eqb}
 use lib.Arith.{digits-div, digits-mod, digits-lt}
 use lib.ListN.{getD}
@@ -19,9 +18,19 @@ use Rattle.tbl.specs.DepthRows.{isGopSize}
 abbrev pub lengthAt : ℕ → ℕ
 lengthAt r = cond (eqb r 0) 2 (4 * r)
 
-either : (a b : Bool) → (a || b) ≡ true → (a ≡ true) ⊎ (b ≡ true)
-either true b e = inl refl
-either false b e = inr e
+-- What holds of the four lengths holds of a group's length
+pub each-length : (P : ℕ → Type 0) → P 2 → P 4 → P 8 → P 16 → (n : ℕ) → isGopSize n ≡ true → P n
+each-length P p2 p4 p8 p16 n e = go (eqb n 2) (eqb n 4) (eqb n 8) (eqb n 16) refl refl refl refl e
+  where
+    at : (m : ℕ) → P m → eqb n m ≡ true → P n
+    at m p h = subst P (sym (eqb-true n m h)) p
+
+    go : (a b c d : Bool) → eqb n 2 ≡ a → eqb n 4 ≡ b → eqb n 8 ≡ c → eqb n 16 ≡ d → (a || b || c || d) ≡ true → P n
+    go true b c d ha hb hc hd h = at 2 p2 ha
+    go false true c d ha hb hc hd h = at 4 p4 hb
+    go false false true d ha hb hc hd h = at 8 p8 hc
+    go false false false true ha hb hc hd h = at 16 p16 hd
+    go false false false false ha hb hc hd h = absurd (false≢true h)
 
 -- what is known of a group's length: its row, and that it is at least 2 and at most 16
 pub record Gop (n : ℕ) : Type 0 where
@@ -29,18 +38,13 @@ pub record Gop (n : ℕ) : Type 0 where
   pub low : 2 ≤ n
   pub high : n ≤ 16
 
-gop-at : (n m : ℕ) → Gop m → eqb n m ≡ true → Gop n
-gop-at n m g e = subst (λ (x : ℕ). Gop x) (sym (eqb-true n m e)) g
-
 pub gop : (n : ℕ) → isGopSize n ≡ true → Gop n
-gop n e =
-    ⊎-elim
-    (λ (h : (eqb n 2 || eqb n 4 || eqb n 8) ≡ true). ⊎-elim
-    (λ (k : (eqb n 2 || eqb n 4) ≡ true). ⊎-elim (gop-at n 2 (record { row = refl; low = omega arith; high = omega arith })) (gop-at n 4 (record { row = refl; low = omega arith; high = omega arith })) (either (eqb n 2) (eqb n 4) k))
-    (gop-at n 8 (record { row = refl; low = omega arith; high = omega arith }))
-    (either (eqb n 2 || eqb n 4) (eqb n 8) h))
-    (gop-at n 16 (record { row = refl; low = omega arith; high = omega arith }))
-    (either (eqb n 2 || eqb n 4 || eqb n 8) (eqb n 16) e)
+gop =
+    each-length Gop
+    (record { row = refl; low = omega arith; high = omega arith })
+    (record { row = refl; low = omega arith; high = omega arith })
+    (record { row = refl; low = omega arith; high = omega arith })
+    (record { row = refl; low = omega arith; high = omega arith })
 
 -- What a row for length n holds at position j: the rule's depth where n is a group's length and the row has that position, and 255 elsewhere.
 abbrev pub inRow : (ℕ → ℕ → Bool) → (ℕ → ℕ → ℕ) → ℕ → ℕ → ℕ

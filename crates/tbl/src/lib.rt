@@ -193,7 +193,8 @@ pub enum SliceDepth {
     Refused(Refusal),
 }
 
-fn is_gop_size(gop_size: u64) -> bool
+// Whether a length is that of a group.
+pub fn is_gop_size(gop_size: u64) -> bool
     ensures { λ r. ⌜ r ≡ isGopSize «gop_size» ⌝ }
 {
     (gop_size == 2) | (gop_size == 4) | (gop_size == 8) | (gop_size == 16)
