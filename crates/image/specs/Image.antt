@@ -2,23 +2,22 @@
 -- Here: the bytes of each part, what bytes at a place stand for, and when bytes are an image.
 -- Assumes nothing.
 use Prim.Native.Nat.{ℕ, _+_, _*_, _<_}
-use mathlib.Core.Bool.{Bool, cond, _&&_}
+use mathlib.Core.Bool.{Bool, _&&_}
 use mathlib.Core.List.{List, [], _∷_, _++_, flatMap}
 use lib.Dec.{leb, eqb}
-use lib.ListN.{length, getD}
+use lib.ListN.{length}
 use Rattle.seq.specs.Lists.{all}
 use Rattle.seq.specs.Table.{entries}
 use Rattle.def.specs.State.{slots, listPlaces}
-use Rattle.def.specs.Word.{word, wordBytes, twosComplement, signedOf}
+use Rattle.def.specs.Word.{wordBytes}
 use Rattle.def.specs.declared.Slot.{Slot}
 use Rattle.def.specs.declared.EvcPm.{EvcPm}
 use Rattle.def.specs.declared.EvcRefP.{EvcRefP}
 use Rattle.def.specs.declared.EvcPoc.{EvcPoc}
+pub use Rattle.words.specs.Words.{wordWidth, flagByte, byteAt, flagAt}
+unfoldable pub use Rattle.words.specs.Words.{pocBytes, wordAt, pocAt}
 
 -- Widths in bytes, and the places at which the parts begin.
-abbrev pub wordWidth : ℕ
-wordWidth = 4
-
 abbrev pub slotWidth : ℕ
 slotWidth = 93
 
@@ -41,9 +40,6 @@ abbrev pub imageLength : ℕ
 imageLength = 6407
 
 -- ---- the bytes of each part
-
-abbrev pub flagByte : Bool → ℕ
-flagByte b = cond b 1 0
 
 unfoldable pub listBytes : List ℕ → List ℕ
 unfolding flatMap
@@ -77,28 +73,14 @@ unfoldable pub refpBytes : EvcRefP → List ℕ
 unfolding listBytes
 refpBytes e = flagByte (e .present) ∷ e .buf ∷ (wordBytes (e .poc) ++ listBytes (e .«list_poc»))
 
-unfoldable pub pocBytes : EvcPoc → List ℕ
-pocBytes r =
-    wordBytes (twosComplement (r .«poc_val» .0))
-    ++ (wordBytes (r .«prev_poc_val») ++ wordBytes (twosComplement (r .«prev_doc_offset» .0)))
-
 unfoldable pub imageBytes : EvcPm → List EvcRefP → EvcPoc → List ℕ
 unfolding flatMap pmBytes refpBytes pocBytes
 imageBytes pm refp poc = pmBytes pm ++ (flatMap refpBytes refp ++ pocBytes poc)
 
 -- ---- what the bytes at a place stand for
 
-abbrev pub byteAt : List ℕ → ℕ → ℕ
-byteAt bs i = getD bs i 0
-
 pub record Bytes (bs : List ℕ) : Type 0 where
   pub each : (i : ℕ) → byteAt bs i < 256
-
-abbrev pub flagAt : List ℕ → ℕ → Bool
-flagAt bs i = eqb (byteAt bs i) 1
-
-unfoldable pub wordAt : List ℕ → ℕ → ℕ
-wordAt bs i = word (byteAt bs i) (byteAt bs (i + 1)) (byteAt bs (i + 2)) (byteAt bs (i + 3))
 
 -- A row of n parts, each of one width, the first at place i.
 abbrev pub rowAt : {A : Type 0} → (ℕ → A) → ℕ → ℕ → ℕ → List A
@@ -146,12 +128,8 @@ unfolding entries refpAt
 refpOf bs = rowAt (refpAt bs) refpWidth refpPlace (2 * listPlaces)
 
 unfoldable pub pocOf : List ℕ → EvcPoc
-unfolding wordAt
-pocOf bs = record {
-  «poc_val» = record { 0 = signedOf (wordAt bs pocPlace) };
-  «prev_poc_val» = wordAt bs (pocPlace + 4);
-  «prev_doc_offset» = record { 0 = signedOf (wordAt bs (pocPlace + 8)) };
-}
+unfolding pocAt
+pocOf bs = pocAt bs pocPlace
 
 -- ---- which bytes are an image
 

@@ -1,41 +1,19 @@
 // What the bytes of an image stand for, part by part.
-use def::DocOffset;
 use def::EvcPic;
 use def::EvcPm;
 use def::EvcPoc;
 use def::EvcRefP;
 use def::MAX_NUM_REF_PICS;
 use def::MAX_PB_SIZE;
-use def::PocVal;
 use def::REFP_PLACES;
 use def::Slot;
-use def::word::signed_of;
+use words::read_flag;
+use words::read_poc_at;
+use words::read_word;
 ghost use mathlib.Core.Path.{_≡_};
-ghost use Prim.Native.Nat.{_+_, _≤_, _<_};
+ghost use Prim.Native.Nat.{_+_, _≤_};
 ghost use lib.ListN.{length};
-ghost use Rattle.def.specs.Word.{word};
-ghost use Rattle.image.specs.Image.{slotWidth, refpWidth, imageLength, flagAt, wordAt, listAt, slotAt, pmOf, refpAt, refpOf, pocOf};
-
-fn read_flag(image: &[u8], at: usize) -> bool
-    requires { ⌜ at < length (now image) ⌝ }
-    ensures { λ r. ⌜ r ≡ flagAt (now (image .entry)) at ⌝ }
-{
-    image[at] == 1
-}
-
-// Four bytes, the highest first.
-fn word_of(a: u8, b: u8, c: u8, d: u8) -> u32
-    ensures { λ r. ⌜ r ≡ word a b c d ⌝ }
-{
-    ((a as u32 * 256 + b as u32) * 256 + c as u32) * 256 + d as u32
-}
-
-fn read_word(image: &[u8], at: usize) -> u32
-    requires { ⌜ at + 4 ≤ length (now image) ⌝ }
-    ensures { λ r. ⌜ r ≡ wordAt (now (image .entry)) at ⌝ }
-{
-    word_of(image[at], image[at + 1], image[at + 2], image[at + 3])
-}
+ghost use Rattle.image.specs.Image.{slotWidth, refpWidth, imageLength, listAt, slotAt, pmOf, refpAt, refpOf, pocOf};
 
 // The 21 list numbers of a picture or of a list entry.
 fn read_list(image: &[u8], at: usize) -> [u32; MAX_NUM_REF_PICS]
@@ -138,9 +116,5 @@ pub fn read_poc(image: &[u8]) -> EvcPoc
     requires { ⌜ length (now image) ≡ imageLength ⌝ }
     ensures { λ r. ⌜ r ≡ pocOf (now (image .entry)) ⌝ }
 {
-    EvcPoc {
-        poc_val: PocVal(signed_of(read_word(image, 6395))),
-        prev_poc_val: read_word(image, 6399),
-        prev_doc_offset: DocOffset(signed_of(read_word(image, 6403))),
-    }
+    read_poc_at(image, 6395)
 }

@@ -7,31 +7,16 @@ use def::MAX_NUM_REF_PICS;
 use def::MAX_PB_SIZE;
 use def::REFP_PLACES;
 use def::Slot;
-use def::word::twos_complement;
+use words::flag_byte;
+use words::write_poc_at;
+use words::write_word;
 ghost use mathlib.Core.Path.{_≡_};
 ghost use mathlib.Core.List.{flatMap};
 ghost use Prim.Native.Nat.{_+_, _*_, _≤_};
 ghost use lib.ListN.{length};
 ghost use Rattle.seq.specs.Stores.{Stored};
 ghost use Rattle.def.specs.State.{listPlaces};
-ghost use Rattle.def.specs.Word.{wordBytes};
-ghost use Rattle.image.specs.Image.{wordWidth, slotWidth, refpWidth, leasePlace, scalarsPlace, refpPlace, pocPlace, imageLength, flagByte, listBytes, slotBytes, scalarBytes, pmBytes, refpBytes, pocBytes, imageBytes};
-
-fn flag_byte(b: bool) -> u8
-    ensures { λ r. ⌜ r ≡ flagByte b ⌝ }
-{
-    if b { 1 } else { 0 }
-}
-
-fn write_word(image: &mut [u8], at: usize, n: u32)
-    requires { ⌜ at + wordWidth ≤ length (now image) ⌝ }
-    ensures { λ _. ⌜ Stored (now (image .entry)) at (wordBytes n) wordWidth (now (image .exit)) ⌝ }
-{
-    image[at] = (n / 16777216 % 256) as u8;
-    image[at + 1] = (n / 65536 % 256) as u8;
-    image[at + 2] = (n / 256 % 256) as u8;
-    image[at + 3] = (n % 256) as u8;
-}
+ghost use Rattle.image.specs.Image.{slotWidth, refpWidth, leasePlace, scalarsPlace, refpPlace, imageLength, listBytes, slotBytes, scalarBytes, pmBytes, refpBytes, imageBytes};
 
 // The 21 list numbers of a picture or of a list entry.
 fn write_list(image: &mut [u8], at: usize, list: [u32; MAX_NUM_REF_PICS])
@@ -122,17 +107,6 @@ fn write_refps(image: &mut [u8], refp: [EvcRefP; REFP_PLACES])
     }
 }
 
-fn write_poc(image: &mut [u8], poc: EvcPoc)
-    requires { ⌜ length (now image) ≡ imageLength ⌝ }
-    ensures { λ _. ⌜ Stored (now (image .entry)) pocPlace (pocBytes poc) 12 (now (image .exit)) ⌝ }
-{
-    let number = poc.poc_val.0;
-    let offset = poc.prev_doc_offset.0;
-    write_word(image, 6395, twos_complement(number));
-    write_word(image, 6399, poc.prev_poc_val);
-    write_word(image, 6403, twos_complement(offset));
-}
-
 // The whole image, whatever the bytes were before.
 pub fn write_image(image: &mut [u8], pm: EvcPm, refp: [EvcRefP; REFP_PLACES], poc: EvcPoc)
     requires { ⌜ length (now image) ≡ imageLength ⌝ }
@@ -140,5 +114,5 @@ pub fn write_image(image: &mut [u8], pm: EvcPm, refp: [EvcRefP; REFP_PLACES], po
 {
     write_pm(image, pm);
     write_refps(image, refp);
-    write_poc(image, poc);
+    write_poc_at(image, 6395, poc);
 }

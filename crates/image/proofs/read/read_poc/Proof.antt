@@ -1,42 +1,16 @@
--- `image::read::read_poc` meets its contract: each field by what its read ensures.
+-- `image::read::read_poc` meets its contract: the record at its place.
 -- Assumes nothing.
-use mir.Syntax.{w32}
-use mir.ValLaws.{toZ-ofZ}
 use borrow.Author.Needs.{needs}
 use Rattle.image.specs.Image.{pocOf}
 use Rattle.image.proofs.read.read_poc.Statement.{statement}
 use Rattle.image.proofs.read.read_poc.Tie as tie
 
-read-word-requires : tie.Need-read-word-requires
-read-word-requires c κs = search needs
-
-signed-of-requires : tie.Need-signed-of-requires
-signed-of-requires c κs = search needs
-
-read-word-requires-2 : tie.Need-read-word-requires-2
-read-word-requires-2 c κs = search needs
-
-read-word-requires-3 : tie.Need-read-word-requires-3
-read-word-requires-3 c κs = search needs
-
-signed-of-requires-2 : tie.Need-signed-of-requires-2
-signed-of-requires-2 c κs = search needs
+read-poc-at-requires : tie.Need-read-poc-at-requires
+read-poc-at-requires c κs = search needs
 
 returns : tie.Need-returns
 unfolding pocOf
-returns c =
-    let offset = c .before in
-    let previous = offset .before in
-    let number = previous .before in
-    rw (toZ-ofZ w32 (number .signed-of .result) (record { sfits = number .signed-of .ok }), toZ-ofZ w32 (c .signed-of2 .result) (record { sfits = c .signed-of2 .ok }), c .signed-of2 .ensures, offset .read-word3 .ensures, previous .read-word2 .ensures, number .signed-of .ensures, number .before .read-word .ensures)
+returns c = c .read-poc-at .ensures
 
 pub read-poc-spec : {M : Type 1} → statement M
-read-poc-spec =
-    tie.close
-    (tie.spec
-    read-word-requires
-    signed-of-requires
-    read-word-requires-2
-    read-word-requires-3
-    signed-of-requires-2
-    returns)
+read-poc-spec = tie.close (tie.spec read-poc-at-requires returns)

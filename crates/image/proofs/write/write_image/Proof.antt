@@ -12,8 +12,8 @@ write-pm-requires c κs = search needs
 write-refps-requires : tie.Need-write-refps-requires
 write-refps-requires c κs = search needs
 
-write-poc-requires : tie.Need-write-poc-requires
-write-poc-requires c κs = search needs
+write-poc-at-requires : tie.Need-write-poc-at-requires
+write-poc-at-requires c κs = search needs
 
 same-length : tie.Need-same-length
 same-length c = search needs
@@ -25,10 +25,10 @@ returns c =
     let lists-written = record-written .before .before .before .before in
     let state-written = lists-written .before .before .before .before in
     stored-whole
-    (stored-then (state-written .write-pm .ensures) (stored-then (lists-written .write-refps .ensures) (record-written .write-poc .ensures)))
+    (stored-then (state-written .write-pm .ensures) (stored-then (lists-written .write-refps .ensures) (record-written .write-poc-at .ensures)))
     (state-written .before .before .before .pre)
 
 pub write-image-spec : {M : Type 1} → statement M
 write-image-spec =
     tie.close
-    (tie.spec write-pm-requires write-refps-requires write-poc-requires same-length returns)
+    (tie.spec write-pm-requires write-refps-requires write-poc-at-requires same-length returns)

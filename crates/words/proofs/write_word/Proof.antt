@@ -1,4 +1,4 @@
--- `image::write::write_word` meets its contract: four bytes, one store each.
+-- `words::write_word` meets its contract: four bytes, one store each.
 -- Assumes nothing.
 use mathlib.Core.Path.{refl}
 use Prim.Native.Nat.{_/_, _%_}
@@ -6,8 +6,8 @@ use native.Mathlib.Omega.{arith}
 use lib.ListN.{length-set}
 use borrow.Author.Needs.{needs}
 use Rattle.seq.specs.Stores.{stored-one, stored-then}
-use Rattle.image.proofs.write.write_word.Statement.{statement}
-use Rattle.image.proofs.write.write_word.Tie as tie
+use Rattle.words.proofs.write_word.Statement.{statement}
+use Rattle.words.proofs.write_word.Tie as tie
 
 cast-image : tie.Need-cast-image
 cast-image c = search needs

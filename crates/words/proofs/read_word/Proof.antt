@@ -1,9 +1,9 @@
--- `image::read::read_word` meets its contract: the number of four bytes, each within the image.
+-- `words::read_word` meets its contract: the number of four bytes, each within the image.
 -- Assumes nothing.
 use borrow.Author.Needs.{needs}
-use Rattle.image.specs.Image.{wordAt}
-use Rattle.image.proofs.read.read_word.Statement.{statement}
-use Rattle.image.proofs.read.read_word.Tie as tie
+use Rattle.words.specs.Words.{wordAt}
+use Rattle.words.proofs.read_word.Statement.{statement}
+use Rattle.words.proofs.read_word.Tie as tie
 
 shared-slice-read-word-of : tie.Need-shared-slice-read-word-of
 shared-slice-read-word-of c = search needs
