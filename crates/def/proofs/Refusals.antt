@@ -1,13 +1,13 @@
--- The test of a refusal's number tells the fact, and every refusal has a number in use. Assumes nothing.
+-- The test of a refusal's number tells the fact; every refusal has a number in use, and no two the same. Assumes nothing.
 use Prim.Native.Nat.{ℕ}
 use native.Mathlib.Omega.{arith}
-use mathlib.Core.Path.{_≡_, refl, sym, _∙_}
-use mathlib.Core.Bool.{Bool, true, false, true≢false, not, _&&_}
+use mathlib.Core.Path.{_≡_, refl, sym, ap, _∙_}
+use mathlib.Core.Bool.{Bool, true, false, true≢false, not, _&&_, cond}
 use mathlib.Core.Bool as Bool
 use lib.Dec.{leb, eqb}
 use borrow.Author.Tests.{leb-true, le-leb, eqb-false, ne-eqb, not-true}
 use Rattle.def.specs.declared.Refusal.{Refusal}
-use Rattle.def.specs.Refusals.{numberInUse, NumberInUse, RefusalsInUse}
+use Rattle.def.specs.Refusals.{refusalNumber, highestRefusal, numberInUse, NumberInUse, RefusalsInUse, NumbersDiffer}
 
 both : (a b : Bool) → (a && b) ≡ true → (a ≡ true) × (b ≡ true)
 both true b e = (refl, e)
@@ -15,12 +15,12 @@ both false b e = absurd (Bool.false≢true e)
 
 pub in-use : (n : ℕ) → numberInUse n ≡ true → NumberInUse n
 in-use n e =
-    let t = both (leb 1 n) (leb n 18 && not (eqb n 10)) e in
-    let u = both (leb n 18) (not (eqb n 10)) (t .1) in
-    (leb-true 1 n (t .0), leb-true n 18 (u .0), eqb-false n 10 (not-true (eqb n 10) (u .1)))
+    let t = both (leb 1 n) (leb n highestRefusal && not (eqb n 10)) e in
+    let u = both (leb n highestRefusal) (not (eqb n 10)) (t .1) in
+    (leb-true 1 n (t .0), leb-true n highestRefusal (u .0), eqb-false n 10 (not-true (eqb n 10) (u .1)))
 
 pub not-in-use : (n : ℕ) → numberInUse n ≡ false → NumberInUse n → ⊥
-not-in-use n e t = true≢false (sym (rw (le-leb 1 n (t .0), le-leb n 18 (t .1), ne-eqb n 10 (t .2)) refl) ∙ e)
+not-in-use n e t = true≢false (sym (rw (le-leb 1 n (t .0), le-leb n highestRefusal (t .1), ne-eqb n 10 (t .2)) refl) ∙ e)
 
 pub refusals-in-use : RefusalsInUse
 refusals-in-use Refusal.SizeTooBig = (omega arith, omega arith, λ e. omega arith)
@@ -40,3 +40,46 @@ refusals-in-use Refusal.BadLayer = (omega arith, omega arith, λ e. omega arith)
 refusals-in-use Refusal.BadRecord = (omega arith, omega arith, λ e. omega arith)
 refusals-in-use Refusal.BadLength = (omega arith, omega arith, λ e. omega arith)
 refusals-in-use Refusal.BadLine = (omega arith, omega arith, λ e. omega arith)
+
+-- the refusal that a number stands for
+abbrev refusalOf : ℕ → Refusal
+refusalOf n =
+    cond (eqb n 1) Refusal.SizeTooBig
+    (cond (eqb n 2) Refusal.StoreFull
+    (cond (eqb n 3) Refusal.PictureLeased
+    (cond (eqb n 4) Refusal.NoLease
+    (cond (eqb n 5) Refusal.SlotTaken
+    (cond (eqb n 6) Refusal.NumberTooHigh
+    (cond (eqb n 7) Refusal.StateNotWhole
+    (cond (eqb n 8) Refusal.TooManyReferences
+    (cond (eqb n 9) Refusal.NoReferences
+    (cond (eqb n 11) Refusal.ForwardListEmpty
+    (cond (eqb n 12) Refusal.BackwardListEmpty
+    (cond (eqb n 13) Refusal.SameNumber
+    (cond (eqb n 14) Refusal.NoSuchPlace
+    (cond (eqb n 15) Refusal.BadLayer
+    (cond (eqb n 16) Refusal.BadRecord
+    (cond (eqb n 17) Refusal.BadLength
+    Refusal.BadLine)))))))))))))))
+
+told-again : (why : Refusal) → refusalOf (refusalNumber why) ≡ why
+told-again Refusal.SizeTooBig = refl
+told-again Refusal.StoreFull = refl
+told-again Refusal.PictureLeased = refl
+told-again Refusal.NoLease = refl
+told-again Refusal.SlotTaken = refl
+told-again Refusal.NumberTooHigh = refl
+told-again Refusal.StateNotWhole = refl
+told-again Refusal.TooManyReferences = refl
+told-again Refusal.NoReferences = refl
+told-again Refusal.ForwardListEmpty = refl
+told-again Refusal.BackwardListEmpty = refl
+told-again Refusal.SameNumber = refl
+told-again Refusal.NoSuchPlace = refl
+told-again Refusal.BadLayer = refl
+told-again Refusal.BadRecord = refl
+told-again Refusal.BadLength = refl
+told-again Refusal.BadLine = refl
+
+pub numbers-differ : NumbersDiffer
+numbers-differ a b e = sym (told-again a) ∙ (ap refusalOf e ∙ told-again b)

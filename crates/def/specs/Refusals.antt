@@ -27,16 +27,23 @@ refusalNumber BadRecord = 16
 refusalNumber BadLength = 17
 refusalNumber BadLine = 18
 
--- The numbers in use, told by a test and as a fact: 1 to 9 and 11 to 18. 10 is withdrawn and gets no second meaning.
+-- The highest number of a refusal.
+abbrev pub highestRefusal : ℕ
+highestRefusal = 18
+
+-- The numbers in use, told by a test and as a fact: 1 to the highest, less 10, which is withdrawn and gets no second meaning.
 abbrev pub numberInUse : ℕ → Bool
-numberInUse n = leb 1 n && (leb n 18 && not (eqb n 10))
+numberInUse n = leb 1 n && (leb n highestRefusal && not (eqb n 10))
 
 abbrev pub NumberInUse : ℕ → Type 0
-NumberInUse n = (1 ≤ n) × (n ≤ 18) × (n ≡ 10 → ⊥)
+NumberInUse n = (1 ≤ n) × (n ≤ highestRefusal) × (n ≡ 10 → ⊥)
 
--- Every refusal has such a number. Proof: proofs/Refusals.antt.
+-- Every refusal has such a number, and no two have the same. Proofs: proofs/Refusals.antt.
 abbrev pub RefusalsInUse : Type 0
 RefusalsInUse = (why : Refusal) → NumberInUse (refusalNumber why)
+
+abbrev pub NumbersDiffer : Type 0
+NumbersDiffer = (a b : Refusal) → refusalNumber a ≡ refusalNumber b → a ≡ b
 
 -- The Rust's word: an error that it returns, or what happens to it instead; `added` where it has no such test.
 pub data RustWord : Type 0 where

@@ -10,8 +10,9 @@ use Rattle.def.specs.declared.{EvcPm.EvcPm, EvcRefP.EvcRefP, EvcPoc.EvcPoc, Put
 use Rattle.def.specs.declared.Answer.{Answer}
 use Rattle.def.specs.declared.Answer.the-variants.{Done, Picture, NotYet, NoMore, Counts, Refused}
 use Rattle.def.specs.declared.Refusal.{Refusal}
-use Rattle.def.specs.declared.Refusal.the-variants.{SizeTooBig, StoreFull, PictureLeased, NoLease, SlotTaken, NumberTooHigh, StateNotWhole, TooManyReferences, NoReferences, ForwardListEmpty, BackwardListEmpty, SameNumber, NoSuchPlace, BadLayer, BadRecord, BadLength, BadLine}
+use Rattle.def.specs.declared.Refusal.the-variants.{StateNotWhole}
 use Rattle.def.specs.Refusals.{refusalNumber}
+use Rattle.def.proofs.Refusals.{refusals-in-use, numbers-differ}
 use Rattle.def.specs.State.{slots}
 use Rattle.poc.specs.declared.PocAnswer.{PocAnswer}
 use Rattle.poc.specs.declared.PocAnswer.the-variants as poc
@@ -129,62 +130,44 @@ new-sound = record { whole-state = new-whole; all-slots = refl }
 
 -- ---- refusal 7
 
-is-seven : (why : Refusal) → refusalNumber why ≡ 7 → why ≡ StateNotWhole
-is-seven SizeTooBig e = absurd (omega arith)
-is-seven StoreFull e = absurd (omega arith)
-is-seven PictureLeased e = absurd (omega arith)
-is-seven NoLease e = absurd (omega arith)
-is-seven SlotTaken e = absurd (omega arith)
-is-seven NumberTooHigh e = absurd (omega arith)
-is-seven StateNotWhole e = refl
-is-seven TooManyReferences e = absurd (omega arith)
-is-seven NoReferences e = absurd (omega arith)
-is-seven ForwardListEmpty e = absurd (omega arith)
-is-seven BackwardListEmpty e = absurd (omega arith)
-is-seven SameNumber e = absurd (omega arith)
-is-seven NoSuchPlace e = absurd (omega arith)
-is-seven BadLayer e = absurd (omega arith)
-is-seven BadRecord e = absurd (omega arith)
-is-seven BadLength e = absurd (omega arith)
-is-seven BadLine e = absurd (omega arith)
+-- a status tells the refusal
+refused-by : (why : Refusal) (call : ℕ) (a : Answer) → replyOf call a .status ≡ refusalNumber why → a ≡ Refused why
+refused-by why call Done e = let r = refusals-in-use why in absurd (omega (arith, r .0))
+refused-by why call (Picture b n) e = let r = refusals-in-use why in absurd (omega (arith, r .0))
+refused-by why call NotYet e = let r = refusals-in-use why in absurd (omega (arith, r .1))
+refused-by why call NoMore e = let r = refusals-in-use why in absurd (omega (arith, r .1))
+refused-by why call (Counts n m) e = let r = refusals-in-use why in absurd (omega (arith, r .0))
+refused-by why call (Refused w) e = ap Refused (numbers-differ w why e)
 
-seven-answer : (call : ℕ) (a : Answer) → replyOf call a .status ≡ 7 → a ≡ Refused StateNotWhole
-seven-answer call Done e = absurd (omega arith)
-seven-answer call (Picture b n) e = absurd (omega arith)
-seven-answer call NotYet e = absurd (omega arith)
-seven-answer call NoMore e = absurd (omega arith)
-seven-answer call (Counts n m) e = absurd (omega arith)
-seven-answer call (Refused why) e = ap Refused (is-seven why e)
-
-seven-number : (a : PocAnswer) → derivedReply 6 a .status ≡ 7 → a ≡ poc.Refused StateNotWhole
-seven-number (poc.Derived n) e = absurd (omega arith)
-seven-number (poc.Refused why) e = ap poc.Refused (is-seven why e)
+number-refused-by : (why : Refusal) (a : PocAnswer) → derivedReply 6 a .status ≡ refusalNumber why → a ≡ poc.Refused why
+number-refused-by why (poc.Derived n) e = let r = refusals-in-use why in absurd (omega (arith, r .0))
+number-refused-by why (poc.Refused w) e = ap poc.Refused (numbers-differ w why e)
 
 pub call-not-seven : CallNotSeven
 unfolding step
-call-not-seven m (Init size refs) s e = by (init-why (m .pm) size refs StateNotWhole .0 (seven-answer 1 _ e))
+call-not-seven m (Init size refs) s e = by (init-why (m .pm) size refs StateNotWhole .0 (refused-by StateNotWhole 1 _ e))
   where
     by : InitTurnedDown (m .pm) size refs StateNotWhole → ⊥
     by (claims.InitTurnedDown.is-not-whole w) = true≢false (sym (s .whole-state) ∙ w)
-call-not-seven m GetEmptyPic s e = by (get-why (m .pm) StateNotWhole .0 (seven-answer 2 _ e))
+call-not-seven m GetEmptyPic s e = by (get-why (m .pm) StateNotWhole .0 (refused-by StateNotWhole 2 _ e))
   where
     by : GetTurnedDown (m .pm) StateNotWhole → ⊥
     by (claims.GetTurnedDown.is-not-whole w) = true≢false (sym (s .whole-state) ∙ w)
 call-not-seven m (PutPic flags poc tid gap) s e =
-    by (put-why (m .pm) (m .refp) (putCallOf flags poc tid gap) StateNotWhole .0 (seven-answer 3 _ e))
+    by (put-why (m .pm) (m .refp) (putCallOf flags poc tid gap) StateNotWhole .0 (refused-by StateNotWhole 3 _ e))
   where
     by : PutTurnedDown (m .pm) (putCallOf flags poc tid gap) StateNotWhole → ⊥
     by (claims.PutTurnedDown.is-not-whole w) = true≢false (sym (s .whole-state) ∙ w)
-call-not-seven m OutPic s e = by (out-why (m .pm) StateNotWhole .0 (seven-answer 4 _ e))
+call-not-seven m OutPic s e = by (out-why (m .pm) StateNotWhole .0 (refused-by StateNotWhole 4 _ e))
   where
     by : OutTurnedDown (m .pm) StateNotWhole → ⊥
     by (claims.OutTurnedDown.is-not-whole w) = true≢false (sym (s .whole-state) ∙ w)
 call-not-seven m (RefpInit slice poc layer intra limit) s e =
-    by (lists-why (m .pm) (m .refp) (refpCallOf slice poc layer intra limit) StateNotWhole .0 (seven-answer 5 _ e))
+    by (lists-why (m .pm) (m .refp) (refpCallOf slice poc layer intra limit) StateNotWhole .0 (refused-by StateNotWhole 5 _ e))
   where
     by : ListsReason (m .pm) (refpCallOf slice poc layer intra limit) StateNotWhole → ⊥
     by (lists-claims.not-whole w) = true≢false (sym (s .whole-state) ∙ w)
-call-not-seven m (PocDerivation L t) s e = by (derive-why L t (m .poc) StateNotWhole .0 (seven-number _ e))
+call-not-seven m (PocDerivation L t) s e = by (derive-why L t (m .poc) StateNotWhole .0 (number-refused-by StateNotWhole _ e))
   where
     by : Refusing L t (m .poc) StateNotWhole → ⊥
     by = elim [ ]

@@ -11,7 +11,7 @@ use Rattle.line.specs.declared.{Call.Call, Line.Line, Reply.Reply}
 use Rattle.machine.specs.declared.Machine.{Machine}
 use Rattle.machine.specs.Step.{newMachine, step, stepLine}
 
--- A status that is a refusal's number: 1 to 9 or 11 to 18.
+-- A status that is the number of a refusal.
 abbrev pub TurnedDown : Reply → Type 0
 TurnedDown r = NumberInUse (r .status)
 
