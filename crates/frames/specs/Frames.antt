@@ -17,9 +17,9 @@ use Rattle.whole.specs.Whole.{whole}
 use Rattle.poc.specs.declared.PocAnswer.{PocAnswer}
 use Rattle.poc.specs.PictureNumber.{derive, recordOf, offsetFrom, seek, inLayer}
 use Rattle.marking.specs.Marking.{marking, marked, sweep, slide, excess, unmarkFirst, noteFirst, lastWalk}
-use Rattle.passes.specs.Order.{keysFrom, insertKey, ordered, down}
+use Rattle.ordering.specs.Order.{keysFrom, insertKey, ordered, down}
 use Rattle.passes.specs.Passes.{passOn, pass}
-use Rattle.passes.specs.Choice.{choice}
+use Rattle.choosing.specs.Choice.{choice}
 use Rattle.refp.specs.Lists.{listsWhole, lists}
 
 -- What a frame shows: a derivation's answer with the previous number after it; the slots after marking with the stored count; or the answer of

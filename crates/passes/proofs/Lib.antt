@@ -1,11 +1,6 @@
-pub mod OrderLaws
-pub mod Insertion
 pub mod Walked
 pub mod Sides
 pub mod PassLaws
 pub mod Taken
-pub mod Accepted
 pub mod Steps
 pub mod OneList
-pub mod Deciding
-pub mod Gathering

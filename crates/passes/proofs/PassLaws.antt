@@ -9,7 +9,7 @@ use borrow.Author.Tests.{le-ltb}
 use Rattle.seq.specs.Lists.{select}
 use Rattle.seq.specs.Reverse.{select-reverse}
 use Rattle.passes.specs.declared.Walk.{Walk}
-use Rattle.passes.specs.Order.{Key}
+use Rattle.ordering.specs.Order.{Key}
 use Rattle.passes.specs.Passes.{Ask, Progress, takesKey, walked, stepOn, passOn, pass, bothWays, listOf}
 use Rattle.passes.specs.InNumbers.{SameAsk}
 use Rattle.passes.specs.Claims.{PassAppends, FullStays, ageless, young, PassingOver, ListsPassOver}

@@ -9,7 +9,7 @@ use lib.ListN.{length}
 use borrow.Author.Tests.{ltb-true, le-ltb}
 use Rattle.seq.specs.Lists.{count}
 use Rattle.seq.specs.Apart.{count-apart}
-use Rattle.passes.specs.Order.{Key}
+use Rattle.ordering.specs.Order.{Key}
 use Rattle.passes.specs.Passes.{sideOf}
 
 pub one-side : (up : Bool) (poc : ℕ) (k : Key) → sideOf up poc k ≡ true → sideOf (not up) poc k ≡ false

@@ -16,7 +16,7 @@ use Rattle.seq.specs.Members.{holds-cons}
 use Rattle.seq.specs.All.{and-left, and-right, count-length}
 use Rattle.seq.specs.Distinct.{distinct-append}
 use Rattle.seq.specs.Sublists.{sublist-mem, sublist-distinct, sublist-count}
-use Rattle.passes.specs.Order.{Key}
+use Rattle.ordering.specs.Order.{Key}
 use Rattle.passes.specs.declared.Walk.{Walk}
 use Rattle.passes.specs.Passes.{Ask, Progress, sideOf, walked, takesKey, stepOn, passOn, pass, bothWays, listOf}
 use Rattle.passes.specs.Claims.{GrowsAtEnd}

@@ -10,7 +10,7 @@ use Rattle.seq.specs.Lists.{count, Distinct}
 use Rattle.seq.specs.Reverse.{getD-reverse, count-reverse, mem-reverse}
 use Rattle.seq.specs.Sublists.{distinct-reverse}
 use Rattle.passes.specs.InNumbers.{placeOf}
-use Rattle.passes.specs.Order.{Key}
+use Rattle.ordering.specs.Order.{Key}
 use Rattle.passes.specs.Passes.{walked}
 
 pub walked-length : (up : Bool) (ks : List Key) → length (walked up ks) ≡ length ks

@@ -1,31 +1,15 @@
--- What is claimed of the order and of a pass over it. A second way to build the lists, and whoever asks why a picture is not in one, rest on
--- these. Proofs: proofs/OrderLaws.antt, proofs/PassLaws.antt, proofs/Taken.antt.
+-- What is claimed of a pass over an order. A second way to build the lists, and whoever asks why a picture is not in one, rest on these.
+-- Proofs: proofs/PassLaws.antt, proofs/Taken.antt.
 -- Assumes nothing.
 use Prim.Native.Nat.{_≤_}
 use mathlib.Core.Path.{_≡_}
 use mathlib.Core.Bool.{Bool, false, not}
-use mathlib.Core.List.{List, _++_, List·Memᴰ, List·Permᴰ}
-use mathlib.Core.Logic.{_↔_}
+use mathlib.Core.List.{List, _++_}
 use lib.ListN.{length, take}
 use Rattle.seq.specs.Lists.{select}
-use Rattle.def.specs.declared.{Slot.Slot}
+use Rattle.ordering.specs.Order.{Key}
 use Rattle.passes.specs.declared.Walk.{Walk}
-use Rattle.passes.specs.Order.{Key, keysFrom, down, InOrder, MarkedKey}
 use Rattle.passes.specs.Passes.{Ask, Progress, passOn, listOf}
-
--- ---- the order
-
--- A permutation of the keys of the marked slots that stands in order, equal numbers by slot, is the order.
-abbrev pub OrderIsOne : Type 0
-OrderIsOne = (xs : List Slot) (ks : List Key) → InOrder ks → List·Permᴰ ks (keysFrom 0 xs) → ks ≡ down xs
-
--- A key stands in the order exactly if its slot is marked and the key is that slot's.
-abbrev pub DownMembers : Type 0
-DownMembers = (xs : List Slot) (k : Key) → List·Memᴰ k (down xs) ↔ MarkedKey xs k
-
--- The order stands in order and is such a permutation.
-abbrev pub DownInOrder : Type 0
-DownInOrder = (xs : List Slot) → InOrder (down xs) × List·Permᴰ (down xs) (keysFrom 0 xs)
 
 -- ---- a pass, from every list and every bound
 

@@ -1,28 +1,17 @@
--- The order, a pass and the choice in plain numbers: what the arrays hold, what a pass asks, and what it leaves.
+-- A pass in plain numbers: what it asks, and what it leaves in the array of a list.
 -- Assumes nothing.
-use Prim.Native.Nat.{ℕ, _+_, _-_, _/_, _%_, _≤_}
+use Prim.Native.Nat.{ℕ, _+_, _-_, _≤_}
 use mathlib.Core.Path.{_≡_}
 use mathlib.Core.Bool.{Bool, cond}
-use mathlib.Core.List.{List, map}
+use mathlib.Core.List.{List}
 use lib.Dec.{ltb}
 use lib.ListN.{length, take, drop}
 use Rattle.seq.specs.Lists.{count}
 use Rattle.def.specs.State.{slots, listPlaces}
-use Rattle.def.specs.declared.Answer.{Answer}
+use Rattle.ordering.specs.Order.{Key}
+use Rattle.ordering.specs.InNumbers.{keysIn}
 use Rattle.passes.specs.declared.PassRule.{PassRule}
-use Rattle.passes.specs.Order.{Key}
 use Rattle.passes.specs.Passes.{Ask, below, sideOf, pass}
-use Rattle.passes.specs.Choice.{Chosen, turned-down, chosen}
-
--- ---- keys
-
--- A key as one number, number * 2^16 + layer * 2^8 + slot.
-abbrev pub keyIn : ℕ → Key
-keyIn n = record { poc = n / 65536; layer = n / 256 % 256; slot = n % 256 }
-
--- the first n of them
-abbrev pub keysIn : ℕ → List ℕ → List Key
-keysIn n ns = map keyIn (take n ns)
 
 -- The place of the key that comes after i others.
 abbrev pub placeOf : Bool → ℕ → ℕ → ℕ
@@ -79,25 +68,3 @@ pub record PassesDone (n : ℕ) (wanted : List Key) (num : ℕ) (before after : 
   pub kept : take from after ≡ take from before
   pub list-long : length after ≡ listPlaces + listPlaces
   pub counted : n ≤ num
-
--- ---- what was chosen
-
-abbrev pub answerOf : Chosen → Answer
-answerOf (turned-down why) = Answer.Refused why
-answerOf (chosen fwd bwd) = Answer.Counts (length fwd) (length bwd)
-
--- The array starts with the keys of the forward list; those of the backward list stand from place 21 on.
-pub record BothIn (fwd bwd : List Key) (ns : List ℕ) : Type 0 where
-  pub forward-in : keysIn (length fwd) ns ≡ fwd
-  pub backward-in : keysIn (length bwd) (drop listPlaces ns) ≡ bwd
-  pub forward-few : length fwd ≤ listPlaces
-  pub backward-few : length bwd ≤ listPlaces
-
-abbrev pub ListsIn : Chosen → List ℕ → Type 0
-ListsIn (turned-down why) ns = Unit {0}
-ListsIn (chosen fwd bwd) ns = BothIn fwd bwd ns
-
-pub record Decided (answer : Answer) (ns : List ℕ) (c : Chosen) : Type 0 where
-  pub answered : answer ≡ answerOf c
-  pub lists-in : ListsIn c ns
-  pub list-long : length ns ≡ listPlaces + listPlaces

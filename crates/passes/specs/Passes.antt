@@ -8,7 +8,7 @@ use lib.IntN.{ℤ, pos, negsuc}
 use lib.ListN.{length}
 use Rattle.def.specs.declared.{RefpCall.RefpCall, SliceType.SliceType}
 use Rattle.passes.specs.declared.{Turn.Turn, Walk.Walk}
-use Rattle.passes.specs.Order.{Key}
+use Rattle.ordering.specs.Order.{Key}
 
 -- ---- what a slice asks
 

@@ -15,11 +15,11 @@ use Rattle.def.specs.State.{listPlaces, highestPoc, noSlot, isMarked, withCount
 use Rattle.def.specs.declared.{Slot.Slot, EvcPm.EvcPm, EvcRefP.EvcRefP, RefpCall.RefpCall, RefpResult.RefpResult, Answer.Answer, Refusal.Refusal}
 use Rattle.whole.specs.Whole.{whole}
 use Rattle.whole.specs.Laws.{whole-rules, rules-whole}
-use Rattle.passes.specs.Order.{Key, keyOf, down, MarkedKey}
-use Rattle.passes.specs.Choice.{turned-down, chosen, isB, forwardOf, backwardOf, withBackward, withForward, choice, of-b, of-other, Accepted}
-use Rattle.passes.proofs.OrderLaws.{down-length, down-members, down-distinct}
+use Rattle.ordering.specs.Order.{Key, keyOf, down, MarkedKey}
+use Rattle.choosing.specs.Choice.{turned-down, chosen, isB, forwardOf, backwardOf, withBackward, withForward, choice, of-b, of-other, Accepted}
+use Rattle.ordering.proofs.OrderLaws.{down-length, down-members, down-distinct}
 use Rattle.passes.proofs.Taken.{Taken}
-use Rattle.passes.proofs.Accepted.{forward-taken, backward-taken}
+use Rattle.choosing.proofs.Accepted.{forward-taken, backward-taken}
 use Rattle.refp.specs.Lists.{refused, counted, listed, settled, isI, listsWhole, lists}
 use Rattle.refp.specs.Claims.{Asked, SomeMarked, ForwardOfB, ListsReason, not-whole, too-high, too-many-marked, none-marked, forward-empty, backward-empty, Holds, Built, ListsWhy, ListsRefusedUnchanged, ListsStayWhole, OnlyCounts, ListsBuilt}
 use Rattle.refp.proofs.Written.{TwoLists, both-long, forward-place, forward-rest, backward-place, backward-rest}

@@ -8,7 +8,7 @@ use lib.Seq.{getD-append-add, getD-drop, getD-take, length-take-le}
 use Rattle.seq.specs.Maps.{map-at}
 use Rattle.def.specs.State.{listPlaces, noRefP}
 use Rattle.def.specs.declared.{Slot.Slot, EvcRefP.EvcRefP}
-use Rattle.passes.specs.Order.{Key}
+use Rattle.ordering.specs.Order.{Key}
 use Rattle.refp.specs.Lists.{entryOf, dropped, written, bothWritten}
 
 -- ---- one list

@@ -10,8 +10,8 @@ use Rattle.seq.specs.Lists.{count, Distinct}
 use Rattle.def.specs.State.{listPlaces, highestPoc, noRefP, isMarked, withCounts}
 use Rattle.def.specs.declared.{EvcPm.EvcPm, EvcRefP.EvcRefP, RefpCall.RefpCall, RefpResult.RefpResult, Answer.Answer, Refusal.Refusal}
 use Rattle.whole.specs.Whole.{whole}
-use Rattle.passes.specs.Order.{Key, down, MarkedKey}
-use Rattle.passes.specs.Choice.{isB, forwardOf, backwardOf, Accepted}
+use Rattle.ordering.specs.Order.{Key, down, MarkedKey}
+use Rattle.choosing.specs.Choice.{isB, forwardOf, backwardOf, Accepted}
 use Rattle.refp.specs.Lists.{entryOf, dropped, isI, refused, lists}
 use Rattle.refp.specs.Copy.{firstEntries, copy}
 

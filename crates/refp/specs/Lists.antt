@@ -7,8 +7,8 @@ use lib.ListN.{length, getD, take, drop}
 use Rattle.def.specs.State.{listPlaces, highestPoc, noSlot, withCounts}
 use Rattle.def.specs.declared.{Slot.Slot, EvcPm.EvcPm, EvcRefP.EvcRefP, RefpCall.RefpCall, RefpResult.RefpResult, SliceType.SliceType, Answer.Answer, Refusal.Refusal}
 use Rattle.whole.specs.Whole.{whole}
-use Rattle.passes.specs.Order.{Key, down}
-use Rattle.passes.specs.Choice.{Chosen, turned-down, chosen, choice}
+use Rattle.ordering.specs.Order.{Key, down}
+use Rattle.choosing.specs.Choice.{Chosen, turned-down, chosen, choice}
 
 -- An entry holds a picture's buffer number with a flag, its number and its list numbers.
 abbrev pub entryOf : List Slot → Key → EvcRefP

@@ -11,8 +11,8 @@ use Rattle.def.specs.State.{slots, listPlaces, highestPoc}
 use Rattle.def.specs.declared.{EvcRefP.EvcRefP, RefpCall.RefpCall, CopyResult.CopyResult, Answer.Answer, Refusal.Refusal}
 use Rattle.keys.specs.declared.{Rest.Rest, Called.Called}
 use Rattle.keys.specs.Keys.{keyPresent, keyBuffer, keyNumber, rowAt, rowsLength, slotAt, stands, listsIn, Sized, ComesLists}
-use Rattle.passes.specs.Order.{Key}
-use Rattle.passes.specs.InNumbers.{keysIn}
+use Rattle.ordering.specs.Order.{Key}
+use Rattle.ordering.specs.InNumbers.{keysIn}
 use Rattle.refp.specs.Lists.{entryOf, dropped, isI, listsWhole}
 
 -- The list numbers of every buffer stay.

@@ -8,9 +8,9 @@ use lib.Dec.{ltb, eqb}
 use lib.ListN.{length}
 use Rattle.def.specs.State.{listPlaces}
 use Rattle.def.specs.declared.{RefpCall.RefpCall, SliceType.SliceType, Refusal.Refusal}
 use Rattle.passes.specs.declared.Walk.{Walk}
-use Rattle.passes.specs.Order.{Key}
+use Rattle.ordering.specs.Order.{Key}
 use Rattle.passes.specs.Passes.{askOf, listOf}
 
 pub data Chosen : Type 0 where
   turned-down : Refusal → Chosen

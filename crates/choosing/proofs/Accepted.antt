@@ -11,11 +11,11 @@ use Rattle.def.specs.declared.RefpCall.{RefpCall}
 use Rattle.def.specs.declared.Refusal.{Refusal}
 use Rattle.def.specs.declared.Refusal.the-variants.{TooManyReferences, NoReferences, ForwardListEmpty, BackwardListEmpty}
 use Rattle.def.specs.State.{listPlaces}
 use Rattle.passes.specs.declared.Walk.{Walk}
-use Rattle.passes.specs.Order.{Key}
+use Rattle.ordering.specs.Order.{Key}
 use Rattle.passes.specs.Passes.{askOf}
-use Rattle.passes.specs.Choice.{turned-down, chosen, isB, forwardWalk, forwardOf, backwardOf, withBackward, withForward, choice, Backward, of-b, of-other, Accepted}
+use Rattle.choosing.specs.Choice.{turned-down, chosen, isB, forwardWalk, forwardOf, backwardOf, withBackward, withForward, choice, Backward, of-b, of-other, Accepted}
 use Rattle.passes.proofs.Taken.{Taken, none-taken, list-taken}
 
 clash : {why : Refusal} {f b : List Key} → turned-down why ≡ chosen f b → ⊥
 clash e = let z : _≡_ {A = ℕ} 0 1 = cc in omega arith

@@ -1,0 +1,3 @@
+pub mod OrderLaws
+pub mod Insertion
+pub mod Gathering
