@@ -2,7 +2,7 @@
  *
  *   1. The running machine: a struct of 6,400 bytes on which every call works in place. Use this to keep pictures.
  *   2. The image: a machine as 6,407 bytes, big-endian, the form for exchange and comparison.
- *   3. The depth tables.
+ *   3. The depth tables and the group planner.
  *
  * The library allocates nothing, calls nothing, keeps no pointer and has no state of its own. No pointer may be null, and
  * what a call writes may overlap nothing else that it is given. Two threads may not use one machine at once. */
@@ -16,7 +16,7 @@
 extern "C" {
 #endif
 
-/* What a call comes to. Under a refusal, 1 to 18 but 10, which is withdrawn and not used again, nothing has changed. */
+/* What a call comes to. Under a refusal, 1 to 19 but 10, which is withdrawn and not used again, nothing has changed. */
 enum picman_status {
     PICMAN_DONE = 0,
     PICMAN_SIZE_TOO_BIG = 1,
@@ -36,6 +36,7 @@ enum picman_status {
     PICMAN_BAD_RECORD = 16,
     PICMAN_BAD_LENGTH = 17,
     PICMAN_BAD = 18,      /* a size, a flag byte or a call that does not fit */
+    PICMAN_BAD_PLAN = 19, /* the planner alone */
     PICMAN_NOT_YET = 0x40, /* out: a picture is wanted and none is due */
     PICMAN_NO_MORE = 0x41  /* out: no picture is wanted */
 };
@@ -47,6 +48,8 @@ enum picman_status {
 #define PICMAN_IMAGE 6407
 #define PICMAN_ANSWER 8
 #define PICMAN_ENTRY 90
+#define PICMAN_RECORD 12
+#define PICMAN_PLAN 7
 
 /* ---- 1. The running machine ------------------------------------------------------------------------------------------ */
 
@@ -233,11 +236,20 @@ static inline uint8_t picman_image_copy_refp(uint8_t image[PICMAN_IMAGE], uint64
     return picman_copy_refp(image, PICMAN_IMAGE, cnt, lidx, entry, PICMAN_ENTRY);
 }
 
-/* ---- 3. The depth tables --------------------------------------------------------------------------------------------- */
+/* ---- 3. The depth tables and the group planner ------------------------------------------------------------------------ */
 
 /* The depth at a position of a group with a hierarchy of B slices, and of a group of P slices; 0 where there is none. */
 uint8_t picman_slice_depth(uint64_t length, uint64_t position);
 uint8_t picman_slice_depth_p(uint64_t length, uint64_t position);
+
+/* Plans one picture: 0, or 17 for a length other than 2, 4, 8 and 16, then 19 for a bad plan (inter neither 2 nor 3, a
+ * count over 2,147,483,647, or without the hierarchy a count below the length that is neither 0 nor a key picture), then
+ * 16 or 6 where a number is derived. interval is the key interval, 0 for none; inter the slice type between, 2 for P and
+ * 3 for B; hierarchy 0 or 1. record, big-endian (poc_val 4, prev_poc_val 4, prev_doc_offset 4), is read and written; plan
+ * gets slice type, depth, reference flag and number 4. 18 where a length is another than PICMAN_RECORD or PICMAN_PLAN, or
+ * hierarchy is neither 0 nor 1. A refusal writes nothing. */
+uint8_t picman_plan(uint64_t count, uint64_t length, uint64_t interval, uint8_t inter, uint8_t hierarchy,
+                    uint8_t *record, size_t record_len, uint8_t *plan, size_t plan_len);
 
 #ifdef __cplusplus
 }

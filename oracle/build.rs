@@ -37,6 +37,8 @@ const API: &[&str] = &[
     "enum ChromaSampling {",
 ];
 const ENC: &[&str] = &[
+    "const PIC_IDX_ORIG:",
+    "const FRM_DEPTH_0:",
     "const FRM_DEPTH_1:",
     "const FRM_DEPTH_2:",
     "const FRM_DEPTH_3:",
@@ -56,6 +58,8 @@ fn main() {
     fs::write(out.join("tbl.rs"), cut_all(&revc, "enc/tbl.rs", TBL)).unwrap();
     fs::write(out.join("def.rs"), cut_all(&revc, "def.rs", DEF)).unwrap();
     fs::write(out.join("enc.rs"), cut_all(&revc, "enc/mod.rs", ENC)).unwrap();
+    let gop = cut_method(&read(&revc, "enc/mod.rs"), "fn decide_normal_gop(");
+    fs::write(out.join("gop.rs"), format!("impl EvceCtx {{\n{gop}}}\n")).unwrap();
     let api = without_foreign_derives(&cut_all(&revc, "api/mod.rs", API));
     fs::write(out.join("api.rs"), api).unwrap();
 
@@ -96,6 +100,14 @@ fn cut(text: &str, file: &str, head: &str) -> String {
         at + lines[at..].iter().position(|line| *line == "}" || *line == "];").unwrap()
     };
     lines[at - attributes..=last].join("\n") + "\n\n"
+}
+
+/// One method of an `impl`, which ends with a line that closes it at its own depth.
+fn cut_method(text: &str, head: &str) -> String {
+    let lines: Vec<&str> = text.lines().collect();
+    let at = lines.iter().position(|line| line.trim_start().starts_with(head)).expect(head);
+    let last = at + lines[at..].iter().position(|line| *line == "    }").unwrap();
+    lines[at..=last].join("\n") + "\n"
 }
 
 fn without_visibility(line: &str) -> &str {

@@ -43,4 +43,6 @@ fault equal-numbers-reversed picman.rs 'self.pic_ref[0..cnt].sort_by_key(' 'self
 fault slot-26-passed-over picman.rs 'let mut i = (MAX_PB_SIZE - 1) as isize;' 'let mut i = (MAX_PB_SIZE - 2) as isize;' "$@"
 fault wrap-moves-previous util.rs '            expected_tid = 0;' '            expected_tid = 0; poc.prev_poc_val += sub_gop_length as u32;' "$@"
 fault one-depth enc/tbl.rs '[ FRM_DEPTH_2, FRM_DEPTH_3, FRM_DEPTH_3, 0xFF,' '[ FRM_DEPTH_2, FRM_DEPTH_3, FRM_DEPTH_2, 0xFF,' "$@"
+fault last-depth-is-reference enc/mod.rs 'if self.slice_depth == tbl_slice_depth[gop_size >> 2][gop_size - 2] {' 'if self.slice_depth == tbl_slice_depth[gop_size >> 2][0] {' "$@"
+fault number-without-place enc/mod.rs '(((pic_imcnt / gop_size) * gop_size) - gop_size + pos + 1) as i32;' '(((pic_imcnt / gop_size) * gop_size) - gop_size + pos) as i32;' "$@"
 exit $failed

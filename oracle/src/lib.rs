@@ -1,8 +1,8 @@
 //! Judges our picture manager by the original Rust.
 //!
 //! The modules `api`, `def`, `enc`, `picman` and `util` hold the original's own text under its own paths, cut
-//! out by build.rs; only `api::frame` is ours. Around them: `original` drives that text on the image of a
-//! machine, `papers` is document 01 in plain Rust, `ours` is the static library, and `judge` compares them.
+//! out by build.rs; only `api::frame` and the context in `enc::gop` are ours. Around them: `original` drives that text on the
+//! image of a machine, `papers` is document 01 in plain Rust, `ours` is the static library, and `judge` compares them.
 
 // Nothing here changes the text, so its warnings are not ours to mend.
 #[allow(warnings)]
@@ -22,6 +22,8 @@ mod def {
 
 #[allow(warnings)]
 mod enc {
+    pub mod gop;
+
     pub mod tbl {
         use super::*;
 
@@ -52,6 +54,7 @@ pub mod judge;
 pub mod lines;
 pub mod original;
 pub mod ours;
+pub mod ours_plan;
 pub mod papers;
 pub mod rng;
 pub mod running;

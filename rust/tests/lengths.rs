@@ -1,7 +1,7 @@
 //! The C functions with lengths that do not fit: 18, and nothing is written. The types of the crate leave no way to that, so
 //! they are declared here.
 
-use picman::{ANSWER, BAD, ENTRY, IMAGE};
+use picman::{ANSWER, BAD, ENTRY, IMAGE, PLAN, RECORD};
 
 type Keys = (*mut u64, usize);
 type Words = (*mut u32, usize);
@@ -10,6 +10,17 @@ extern "C" {
     fn picman_new(image: *mut u8, len: usize) -> u8;
     fn picman_call(i: *mut u8, n: usize, call: *const u8, cn: usize, answer: *mut u8, an: usize) -> u8;
     fn picman_copy_refp(i: *mut u8, n: usize, cnt: u64, lidx: u64, entry: *const u8, en: usize) -> u8;
+    fn picman_plan(
+        count: u64,
+        length: u64,
+        interval: u64,
+        inter: u8,
+        hierarchy: u8,
+        record: *mut u8,
+        rn: usize,
+        plan: *mut u8,
+        pn: usize,
+    ) -> u8;
     fn picman_machine_new(k: *mut u64, kn: usize, w: *mut u32, wn: usize, r: *mut u32, rn: usize) -> u8;
     fn picman_machine_init(
         k: *mut u64,
@@ -235,4 +246,17 @@ fn what_goes_with_a_machine() {
     }
     let before = Arrays::new(27, 1533, 13);
     assert!(arrays.keys == before.keys && arrays.rows == before.rows && arrays.registers == before.registers);
+}
+
+#[test]
+fn plans() {
+    const BEFORE: u8 = 0xa5;
+    let other = |right: usize| (0..32).filter(move |len| *len != right);
+    let sizes = other(RECORD).map(|len| (len, PLAN)).chain(other(PLAN).map(|len| (RECORD, len)));
+    for (rn, pn) in sizes {
+        let (mut record, mut plan) = ([BEFORE; 32], [BEFORE; 32]);
+        let status = unsafe { picman_plan(8, 8, 0, 3, 1, record.as_mut_ptr(), rn, plan.as_mut_ptr(), pn) };
+        assert_eq!(status, BAD, "{rn} {pn}");
+        assert!(record.iter().chain(&plan).all(|byte| *byte == BEFORE), "{rn} {pn}");
+    }
 }

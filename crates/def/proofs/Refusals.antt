@@ -40,6 +40,7 @@ refusals-in-use Refusal.BadLayer = (omega arith, omega arith, λ e. omega arith)
 refusals-in-use Refusal.BadRecord = (omega arith, omega arith, λ e. omega arith)
 refusals-in-use Refusal.BadLength = (omega arith, omega arith, λ e. omega arith)
 refusals-in-use Refusal.BadLine = (omega arith, omega arith, λ e. omega arith)
+refusals-in-use Refusal.BadPlan = (omega arith, omega arith, λ e. omega arith)
 
 -- the refusal that a number stands for
 abbrev refusalOf : ℕ → Refusal
@@ -60,7 +61,8 @@ refusalOf n =
     (cond (eqb n 15) Refusal.BadLayer
     (cond (eqb n 16) Refusal.BadRecord
     (cond (eqb n 17) Refusal.BadLength
-    Refusal.BadLine)))))))))))))))
+    (cond (eqb n 18) Refusal.BadLine
+    Refusal.BadPlan))))))))))))))))
 
 told-again : (why : Refusal) → refusalOf (refusalNumber why) ≡ why
 told-again Refusal.SizeTooBig = refl
@@ -80,6 +82,7 @@ told-again Refusal.BadLayer = refl
 told-again Refusal.BadRecord = refl
 told-again Refusal.BadLength = refl
 told-again Refusal.BadLine = refl
+told-again Refusal.BadPlan = refl
 
 pub numbers-differ : NumbersDiffer
 numbers-differ a b e = sym (told-again a) ∙ (ap refusalOf e ∙ told-again b)

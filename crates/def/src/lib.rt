@@ -85,10 +85,11 @@ pub enum Refusal {
     BadRecord,
     BadLength,
     BadLine,
+    BadPlan,
 }
 
 // The highest number of a refusal, and the one that is withdrawn.
-const HIGHEST_REFUSAL: u8 = 18;
+const HIGHEST_REFUSAL: u8 = 19;
 
 const WITHDRAWN: u8 = 10;
 
@@ -120,6 +121,7 @@ pub fn refusal_number(r: Refusal) -> u8
         Refusal::BadRecord => 16,
         Refusal::BadLength => 17,
         Refusal::BadLine => 18,
+        Refusal::BadPlan => 19,
     }
 }
 

@@ -10,7 +10,7 @@ use Rattle.def.specs.declared.{EvcPm.EvcPm, EvcRefP.EvcRefP, EvcPoc.EvcPoc, Put
 use Rattle.def.specs.declared.Answer.{Answer}
 use Rattle.def.specs.declared.Answer.the-variants.{Done, Picture, NotYet, NoMore, Counts, Refused}
 use Rattle.def.specs.declared.Refusal.{Refusal}
-use Rattle.def.specs.declared.Refusal.the-variants.{StateNotWhole}
+use Rattle.def.specs.declared.Refusal.the-variants.{StateNotWhole, BadPlan}
 use Rattle.def.specs.Refusals.{refusalNumber}
 use Rattle.def.proofs.Refusals.{refusals-in-use, numbers-differ}
 use Rattle.def.specs.State.{slots}
@@ -39,7 +39,7 @@ use Rattle.line.specs.declared.Line.the-variants.{Good, Bad}
 use Rattle.line.specs.Answers.{replyOf}
 use Rattle.machine.specs.declared.Machine.{Machine}
 use Rattle.machine.specs.Step.{putCallOf, refpCallOf, derivedReply, step, stepLine}
-use Rattle.machine.specs.Claims.{TurnedDown, CallUnchanged, LineUnchanged, CallSound, LineSound, NewSound, CallNotSeven, LineNotSeven}
+use Rattle.machine.specs.Claims.{TurnedDown, CallUnchanged, LineUnchanged, CallSound, LineSound, NewSound, CallNotSeven, LineNotSeven, CallNotBadPlan, LineNotBadPlan}
 
 -- ---- a call that is turned down
 
@@ -128,7 +128,7 @@ line-sound m Bad s = s
 pub new-sound : NewSound
 new-sound = record { whole-state = new-whole; all-slots = refl }
 
--- ---- refusal 7
+-- ---- refusals 7 and 19
 
 -- a status tells the refusal
 refused-by : (why : Refusal) (call : ℕ) (a : Answer) → replyOf call a .status ≡ refusalNumber why → a ≡ Refused why
@@ -176,3 +176,37 @@ pub line-not-seven : LineNotSeven
 unfolding stepLine
 line-not-seven m (Good c) s e = call-not-seven m c s e
 line-not-seven m Bad s e = absurd (omega arith)
+
+pub call-not-bad-plan : CallNotBadPlan
+unfolding step
+call-not-bad-plan m (Init size refs) e = by (init-why (m .pm) size refs BadPlan .0 (refused-by BadPlan 1 _ e))
+  where
+    by : InitTurnedDown (m .pm) size refs BadPlan → ⊥
+    by = elim [ ]
+call-not-bad-plan m GetEmptyPic e = by (get-why (m .pm) BadPlan .0 (refused-by BadPlan 2 _ e))
+  where
+    by : GetTurnedDown (m .pm) BadPlan → ⊥
+    by = elim [ ]
+call-not-bad-plan m (PutPic flags poc tid gap) e =
+    by (put-why (m .pm) (m .refp) (putCallOf flags poc tid gap) BadPlan .0 (refused-by BadPlan 3 _ e))
+  where
+    by : PutTurnedDown (m .pm) (putCallOf flags poc tid gap) BadPlan → ⊥
+    by = elim [ ]
+call-not-bad-plan m OutPic e = by (out-why (m .pm) BadPlan .0 (refused-by BadPlan 4 _ e))
+  where
+    by : OutTurnedDown (m .pm) BadPlan → ⊥
+    by = elim [ ]
+call-not-bad-plan m (RefpInit slice poc layer intra limit) e =
+    by (lists-why (m .pm) (m .refp) (refpCallOf slice poc layer intra limit) BadPlan .0 (refused-by BadPlan 5 _ e))
+  where
+    by : ListsReason (m .pm) (refpCallOf slice poc layer intra limit) BadPlan → ⊥
+    by = elim [ ]
+call-not-bad-plan m (PocDerivation L t) e = by (derive-why L t (m .poc) BadPlan .0 (number-refused-by BadPlan _ e))
+  where
+    by : Refusing L t (m .poc) BadPlan → ⊥
+    by = elim [ ]
+
+pub line-not-bad-plan : LineNotBadPlan
+unfolding stepLine
+line-not-bad-plan m (Good c) e = call-not-bad-plan m c e
+line-not-bad-plan m Bad e = absurd (omega arith)

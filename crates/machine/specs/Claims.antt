@@ -1,10 +1,12 @@
 -- What holds of every call and every line: one that is turned down leaves state, lists and record as they were; a whole state stays whole;
--- so refusal 7 never follows in a run from the new machine. The proofs stand in proofs/EveryCall.antt.
+-- so refusal 7 never follows in a run from the new machine; 19 is the planner's, which has no call line. The proofs stand in
+-- proofs/EveryCall.antt.
 -- Assumes nothing.
 use mathlib.Core.Path.{_≡_}
 use mathlib.Core.Bool.{true}
 use lib.ListN.{length}
-use Rattle.def.specs.Refusals.{NumberInUse}
+use Rattle.def.specs.declared.Refusal.{Refusal}
+use Rattle.def.specs.Refusals.{refusalNumber, NumberInUse}
 use Rattle.def.specs.State.{slots}
 use Rattle.whole.specs.Whole.{whole}
 use Rattle.line.specs.declared.{Call.Call, Line.Line, Reply.Reply}
@@ -42,3 +44,10 @@ CallNotSeven = (m : Machine) (c : Call) → Sound m → step m c .reply .status 
 
 abbrev pub LineNotSeven : Type 0
 LineNotSeven = (m : Machine) (l : Line) → Sound m → stepLine m l .reply .status ≡ 7 → ⊥
+
+-- The planner is no call of a line, so on any machine none is answered with its 19.
+abbrev pub CallNotBadPlan : Type 0
+CallNotBadPlan = (m : Machine) (c : Call) → step m c .reply .status ≡ refusalNumber Refusal.BadPlan → ⊥
+
+abbrev pub LineNotBadPlan : Type 0
+LineNotBadPlan = (m : Machine) (l : Line) → stepLine m l .reply .status ≡ refusalNumber Refusal.BadPlan → ⊥

@@ -1,8 +1,9 @@
 // The static library for C and Rust: functions over lent memory, thin over the crates below. Here are those on an image and on the depth
-// tables; those on the running machine stand in `arrays`, and those that load and save an image in `exchanged`. Where a size or a flag byte
-// does not fit, a function gives 18 and writes nothing.
+// tables; those on the running machine stand in `arrays`, those that load and save an image in `exchanged`, and the group planner in `plan`.
+// Where a size or a flag byte does not fit, a function gives 18 and writes nothing.
 pub mod arrays;
 pub mod exchanged;
+pub mod plan;
 
 ghost use mathlib.Core.Path.{_≡_};
 ghost use Rattle.tbl.specs.DepthRows.{sliceDepth, sliceDepthP};

@@ -6,6 +6,7 @@ pub mod copy;
 pub mod depth;
 pub mod lists;
 pub mod marking;
+pub mod plan;
 pub mod poc;
 pub mod store;
 pub mod whole;

@@ -3,6 +3,7 @@
 pub mod exhaustive;
 pub mod frames;
 pub mod images;
+pub mod plans;
 pub mod running;
 pub mod sequences;
 pub mod states;

@@ -1,0 +1,4 @@
+mod Passed
+mod Lengths
+mod Derivations
+pub mod Claims
