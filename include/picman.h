@@ -16,7 +16,7 @@
 extern "C" {
 #endif
 
-/* What a call comes to. Under a refusal, 1 to 19 but 10, which is withdrawn and not used again, nothing has changed. */
+/* What a call comes to. Under a refusal, 1 to 19 but 10 and 12, which are withdrawn and not used again, nothing has changed. */
 enum picman_status {
     PICMAN_DONE = 0,
     PICMAN_SIZE_TOO_BIG = 1,
@@ -29,7 +29,6 @@ enum picman_status {
     PICMAN_TOO_MANY_REFERENCES = 8,
     PICMAN_NO_REFERENCES = 9,
     PICMAN_FORWARD_LIST_EMPTY = 11,
-    PICMAN_BACKWARD_LIST_EMPTY = 12,
     PICMAN_SAME_NUMBER = 13,
     PICMAN_NO_SUCH_PLACE = 14,
     PICMAN_BAD_LAYER = 15,

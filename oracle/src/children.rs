@@ -45,7 +45,7 @@ fn fate_of(why: Why, sample: &Sample) -> Fate {
     match refusal {
         5 => Fate::Panics("assertion failed: self.pic[pos as usize].is_none()"),
         8 => Fate::Panics("index out of bounds: the len is 21 but the index is 21"),
-        9 | 11 | 12 => Fate::Panics("assertion failed: x"),
+        9 | 11 => Fate::Panics("assertion failed: x"),
         15 => Fate::NeverReturns,
         _ if same_number_first(sample) => Fate::Returns(13),
         _ => Fate::Panics("index out of bounds"),

@@ -63,7 +63,7 @@ impl Samples {
             let never_returns = matches!(why, Why::OldMet | Why::Refused(15));
             Kept { why, never_returns, met: 0, samples: Vec::new() }
         };
-        let refusals = [5, 8, 9, 11, 12, 14, 15].map(Why::Refused);
+        let refusals = [5, 8, 9, 11, 14, 15].map(Why::Refused);
         Samples { rng: Rng::new(seed), kept: refusals.into_iter().chain([Why::OldMet]).map(kept).collect() }
     }
 

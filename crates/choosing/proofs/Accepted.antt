@@ -9,41 +9,38 @@ use lib.ListN.{length}
 use borrow.Author.Tests.{ltb-false, eqb-false}
 use Rattle.def.specs.declared.RefpCall.{RefpCall}
 use Rattle.def.specs.declared.Refusal.{Refusal}
-use Rattle.def.specs.declared.Refusal.the-variants.{TooManyReferences, NoReferences, ForwardListEmpty, BackwardListEmpty}
+use Rattle.def.specs.declared.Refusal.the-variants.{TooManyReferences, NoReferences, ForwardListEmpty}
 use Rattle.def.specs.State.{listPlaces}
 use Rattle.passes.specs.declared.Walk.{Walk}
 use Rattle.ordering.specs.Order.{Key}
 use Rattle.passes.specs.Passes.{askOf}
-use Rattle.choosing.specs.Choice.{turned-down, chosen, isB, forwardWalk, forwardOf, backwardOf, withBackward, withForward, choice, Backward, of-b, of-other, Accepted}
+use Rattle.choosing.specs.Choice.{turned-down, chosen, isB, forwardWalk, forwardOf, backwardOf, withForward, choice, Backward, of-b, of-other, Accepted}
+use Rattle.choosing.proofs.BackwardSome.{backward-some}
 use Rattle.passes.proofs.Taken.{Taken, none-taken, list-taken}
 
 clash : {why : Refusal} {f b : List Key} → turned-down why ≡ chosen f b → ⊥
 clash e = let z : _≡_ {A = ℕ} 0 1 = cc in omega arith
 
 module _ (c : RefpCall) (ks fwd bwd : List Key) where
-  on-backward : (f : List Key) → isB (c .«slice_type») ≡ true → withBackward f (backwardOf c ks) ≡ chosen fwd bwd → (f ≡ fwd) × Backward c ks bwd
-  on-backward f b e = go (eqb (length (backwardOf c ks)) 0) refl e
-    where
-      go : (z : Bool) → eqb (length (backwardOf c ks)) 0 ≡ z → cond z (turned-down BackwardListEmpty) (chosen f (backwardOf c ks)) ≡ chosen fwd bwd
-          → (f ≡ fwd) × Backward c ks bwd
-      go true n e = absurd (clash e)
-      go false n e =
-          let s : backwardOf c ks ≡ bwd = cc in
-          (cc, of-b b s (λ z. eqb-false (length (backwardOf c ks)) 0 n (ap length s ∙ z)))
-
   on-forward : withForward (isB (c .«slice_type»)) (backwardOf c ks) (forwardOf c ks) ≡ chosen fwd bwd
       → (forwardOf c ks ≡ fwd) × (length fwd ≡ 0 → ⊥) × Backward c ks bwd
   on-forward e = go (eqb (length (forwardOf c ks)) 0) (isB (c .«slice_type»)) refl refl e
     where
-      done : eqb (length (forwardOf c ks)) 0 ≡ false → (forwardOf c ks ≡ fwd) × Backward c ks bwd → (forwardOf c ks ≡ fwd) × (length fwd ≡ 0 → ⊥) × Backward c ks bwd
-      done n r = (r .0, λ z. eqb-false (length (forwardOf c ks)) 0 n (ap length (r .0) ∙ z), r .1)
+      some : eqb (length (forwardOf c ks)) 0 ≡ false → length (forwardOf c ks) ≡ 0 → ⊥
+      some n = eqb-false (length (forwardOf c ks)) 0 n
 
       go : (z b : Bool) → eqb (length (forwardOf c ks)) 0 ≡ z → isB (c .«slice_type») ≡ b
-          → cond z (turned-down ForwardListEmpty) (cond b (withBackward (forwardOf c ks) (backwardOf c ks)) (chosen (forwardOf c ks) [])) ≡ chosen fwd bwd
+          → cond z (turned-down ForwardListEmpty) (chosen (forwardOf c ks) (cond b (backwardOf c ks) [])) ≡ chosen fwd bwd
           → (forwardOf c ks ≡ fwd) × (length fwd ≡ 0 → ⊥) × Backward c ks bwd
       go true b n t e = absurd (clash e)
-      go false true n t e = done n (on-backward (forwardOf c ks) t e)
-      go false false n t e = done n (cc, of-other t (let s : [] ≡ bwd = cc in sym s))
+      go false true n t e =
+          let f : forwardOf c ks ≡ fwd = cc in
+          let s : backwardOf c ks ≡ bwd = cc in
+          (f, λ z. some n (ap length f ∙ z), of-b t s (λ z. backward-some c ks t (some n) (ap length s ∙ z)))
+      go false false n t e =
+          let f : forwardOf c ks ≡ fwd = cc in
+          let s : [] ≡ bwd = cc in
+          (f, λ z. some n (ap length f ∙ z), of-other t (sym s))
 
   pub accepted : choice c ks ≡ chosen fwd bwd → Accepted c ks fwd bwd
   unfolding choice

@@ -1,2 +1,3 @@
+pub mod BackwardSome
 pub mod Accepted
 pub mod Deciding

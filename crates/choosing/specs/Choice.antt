@@ -36,14 +36,10 @@ forwardOf c ks = listOf (askOf c) (forwardWalk (c .«slice_type»)) ks
 abbrev pub backwardOf : RefpCall → List Key → List Key
 backwardOf c ks = listOf (askOf c) Walk.UpThenDown ks
 
--- The backward list is empty (12), or both lists are chosen.
-abbrev pub withBackward : List Key → List Key → Chosen
-withBackward fwd bwd = cond (eqb (length bwd) 0) (turned-down Refusal.BackwardListEmpty) (chosen fwd bwd)
-
--- The forward list is empty (11), and then, for B, the backward list.
+-- The forward list is empty (11), or both lists are chosen; slices other than B have no backward list. That of B has an entry wherever the
+-- forward list has one (`BackwardHasEntry` in Claims.antt), so nothing is asked of it.
 abbrev pub withForward : Bool → List Key → List Key → Chosen
-withForward both bwd fwd =
-    cond (eqb (length fwd) 0) (turned-down Refusal.ForwardListEmpty) (cond both (withBackward fwd bwd) (chosen fwd []))
+withForward both bwd fwd = cond (eqb (length fwd) 0) (turned-down Refusal.ForwardListEmpty) (chosen fwd (cond both bwd []))
 
 -- More than 21 are marked (8), none is marked (9), and then the lists. Slice I asks for no list and does not come here.
 unfoldable pub choice : RefpCall → List Key → Chosen

@@ -23,7 +23,7 @@ ghost use Rattle.ordering.specs.InNumbers.{keysIn};
 ghost use Rattle.passes.specs.declared.Walk.{Walk};
 ghost use Rattle.passes.specs.Passes.{listOf};
 ghost use Rattle.passes.specs.InNumbers.{askIn, PassesRoom};
-ghost use Rattle.choosing.specs.Choice.{isB, forwardWalk, withBackward, choice};
+ghost use Rattle.choosing.specs.Choice.{chosen, isB, forwardWalk, choice};
 ghost use Rattle.choosing.specs.Decided.{Decided};
 
 fn is_b(slice_type: SliceType) -> bool
@@ -60,12 +60,9 @@ fn backward_list(
     requires { ⌜ forward ≤ listPlaces ⌝ }
     ensures { λ r.
         let backward = listOf (askIn rule) Walk.UpThenDown (keysIn num (now («pic_ref» .entry))) in
-        ⌜ Decided r (now (list .exit)) (withBackward (keysIn forward (now (list .entry))) backward) ⌝ }
+        ⌜ Decided r (now (list .exit)) (chosen (keysIn forward (now (list .entry))) backward) ⌝ }
 {
     let taken = passes(pic_ref, num, list, MAX_NUM_REF_PICS, rule, Walk::UpThenDown);
-    if taken == 0 {
-        return Answer::Refused(Refusal::BackwardListEmpty);
-    }
     Answer::Counts(forward as u8, taken as u8)
 }
 

@@ -15,32 +15,36 @@ both false b e = absurd (Bool.false≢true e)
 
 pub in-use : (n : ℕ) → numberInUse n ≡ true → NumberInUse n
 in-use n e =
-    let t = both (leb 1 n) (leb n highestRefusal && not (eqb n 10)) e in
-    let u = both (leb n highestRefusal) (not (eqb n 10)) (t .1) in
-    (leb-true 1 n (t .0), leb-true n highestRefusal (u .0), eqb-false n 10 (not-true (eqb n 10) (u .1)))
+    let t = both (leb 1 n) (leb n highestRefusal && (not (eqb n 10) && not (eqb n 12))) e in
+    let u = both (leb n highestRefusal) (not (eqb n 10) && not (eqb n 12)) (t .1) in
+    let v = both (not (eqb n 10)) (not (eqb n 12)) (u .1) in (
+      leb-true 1 n (t .0),
+      leb-true n highestRefusal (u .0),
+      eqb-false n 10 (not-true (eqb n 10) (v .0)),
+      eqb-false n 12 (not-true (eqb n 12) (v .1)),
+    )
 
 pub not-in-use : (n : ℕ) → numberInUse n ≡ false → NumberInUse n → ⊥
-not-in-use n e t = true≢false (sym (rw (le-leb 1 n (t .0), le-leb n highestRefusal (t .1), ne-eqb n 10 (t .2)) refl) ∙ e)
+not-in-use n e t = true≢false (sym (rw (le-leb 1 n (t .0), le-leb n highestRefusal (t .1), ne-eqb n 10 (t .2), ne-eqb n 12 (t .3)) refl) ∙ e)
 
 pub refusals-in-use : RefusalsInUse
-refusals-in-use Refusal.SizeTooBig = (omega arith, omega arith, λ e. omega arith)
-refusals-in-use Refusal.StoreFull = (omega arith, omega arith, λ e. omega arith)
-refusals-in-use Refusal.PictureLeased = (omega arith, omega arith, λ e. omega arith)
-refusals-in-use Refusal.NoLease = (omega arith, omega arith, λ e. omega arith)
-refusals-in-use Refusal.SlotTaken = (omega arith, omega arith, λ e. omega arith)
-refusals-in-use Refusal.NumberTooHigh = (omega arith, omega arith, λ e. omega arith)
-refusals-in-use Refusal.StateNotWhole = (omega arith, omega arith, λ e. omega arith)
-refusals-in-use Refusal.TooManyReferences = (omega arith, omega arith, λ e. omega arith)
-refusals-in-use Refusal.NoReferences = (omega arith, omega arith, λ e. omega arith)
-refusals-in-use Refusal.ForwardListEmpty = (omega arith, omega arith, λ e. omega arith)
-refusals-in-use Refusal.BackwardListEmpty = (omega arith, omega arith, λ e. omega arith)
-refusals-in-use Refusal.SameNumber = (omega arith, omega arith, λ e. omega arith)
-refusals-in-use Refusal.NoSuchPlace = (omega arith, omega arith, λ e. omega arith)
-refusals-in-use Refusal.BadLayer = (omega arith, omega arith, λ e. omega arith)
-refusals-in-use Refusal.BadRecord = (omega arith, omega arith, λ e. omega arith)
-refusals-in-use Refusal.BadLength = (omega arith, omega arith, λ e. omega arith)
-refusals-in-use Refusal.BadLine = (omega arith, omega arith, λ e. omega arith)
-refusals-in-use Refusal.BadPlan = (omega arith, omega arith, λ e. omega arith)
+refusals-in-use Refusal.SizeTooBig = (omega arith, omega arith, λ e. omega arith, λ e. omega arith)
+refusals-in-use Refusal.StoreFull = (omega arith, omega arith, λ e. omega arith, λ e. omega arith)
+refusals-in-use Refusal.PictureLeased = (omega arith, omega arith, λ e. omega arith, λ e. omega arith)
+refusals-in-use Refusal.NoLease = (omega arith, omega arith, λ e. omega arith, λ e. omega arith)
+refusals-in-use Refusal.SlotTaken = (omega arith, omega arith, λ e. omega arith, λ e. omega arith)
+refusals-in-use Refusal.NumberTooHigh = (omega arith, omega arith, λ e. omega arith, λ e. omega arith)
+refusals-in-use Refusal.StateNotWhole = (omega arith, omega arith, λ e. omega arith, λ e. omega arith)
+refusals-in-use Refusal.TooManyReferences = (omega arith, omega arith, λ e. omega arith, λ e. omega arith)
+refusals-in-use Refusal.NoReferences = (omega arith, omega arith, λ e. omega arith, λ e. omega arith)
+refusals-in-use Refusal.ForwardListEmpty = (omega arith, omega arith, λ e. omega arith, λ e. omega arith)
+refusals-in-use Refusal.SameNumber = (omega arith, omega arith, λ e. omega arith, λ e. omega arith)
+refusals-in-use Refusal.NoSuchPlace = (omega arith, omega arith, λ e. omega arith, λ e. omega arith)
+refusals-in-use Refusal.BadLayer = (omega arith, omega arith, λ e. omega arith, λ e. omega arith)
+refusals-in-use Refusal.BadRecord = (omega arith, omega arith, λ e. omega arith, λ e. omega arith)
+refusals-in-use Refusal.BadLength = (omega arith, omega arith, λ e. omega arith, λ e. omega arith)
+refusals-in-use Refusal.BadLine = (omega arith, omega arith, λ e. omega arith, λ e. omega arith)
+refusals-in-use Refusal.BadPlan = (omega arith, omega arith, λ e. omega arith, λ e. omega arith)
 
 -- the refusal that a number stands for
 abbrev refusalOf : ℕ → Refusal
@@ -55,14 +59,13 @@ refusalOf n =
     (cond (eqb n 8) Refusal.TooManyReferences
     (cond (eqb n 9) Refusal.NoReferences
     (cond (eqb n 11) Refusal.ForwardListEmpty
-    (cond (eqb n 12) Refusal.BackwardListEmpty
     (cond (eqb n 13) Refusal.SameNumber
     (cond (eqb n 14) Refusal.NoSuchPlace
     (cond (eqb n 15) Refusal.BadLayer
     (cond (eqb n 16) Refusal.BadRecord
     (cond (eqb n 17) Refusal.BadLength
     (cond (eqb n 18) Refusal.BadLine
-    Refusal.BadPlan))))))))))))))))
+    Refusal.BadPlan)))))))))))))))
 
 told-again : (why : Refusal) → refusalOf (refusalNumber why) ≡ why
 told-again Refusal.SizeTooBig = refl
@@ -75,7 +78,6 @@ told-again Refusal.StateNotWhole = refl
 told-again Refusal.TooManyReferences = refl
 told-again Refusal.NoReferences = refl
 told-again Refusal.ForwardListEmpty = refl
-told-again Refusal.BackwardListEmpty = refl
 told-again Refusal.SameNumber = refl
 told-again Refusal.NoSuchPlace = refl
 told-again Refusal.BadLayer = refl

@@ -6,7 +6,7 @@ use mathlib.Core.Bool.{Bool, not, _&&_}
 use mathlib.Core.List.{List, [], _∷_}
 use lib.Dec.{leb, eqb}
 use Rattle.def.specs.declared.Refusal.{Refusal}
-use Rattle.def.specs.declared.Refusal.the-variants.{SizeTooBig, StoreFull, PictureLeased, NoLease, SlotTaken, NumberTooHigh, StateNotWhole, TooManyReferences, NoReferences, ForwardListEmpty, BackwardListEmpty, SameNumber, NoSuchPlace, BadLayer, BadRecord, BadLength, BadLine, BadPlan}
+use Rattle.def.specs.declared.Refusal.the-variants.{SizeTooBig, StoreFull, PictureLeased, NoLease, SlotTaken, NumberTooHigh, StateNotWhole, TooManyReferences, NoReferences, ForwardListEmpty, SameNumber, NoSuchPlace, BadLayer, BadRecord, BadLength, BadLine, BadPlan}
 
 abbrev pub refusalNumber : Refusal → ℕ
 refusalNumber SizeTooBig = 1
@@ -19,7 +19,6 @@ refusalNumber StateNotWhole = 7
 refusalNumber TooManyReferences = 8
 refusalNumber NoReferences = 9
 refusalNumber ForwardListEmpty = 11
-refusalNumber BackwardListEmpty = 12
 refusalNumber SameNumber = 13
 refusalNumber NoSuchPlace = 14
 refusalNumber BadLayer = 15
@@ -32,12 +31,12 @@ refusalNumber BadPlan = 19
 abbrev pub highestRefusal : ℕ
 highestRefusal = 19
 
--- The numbers in use, told by a test and as a fact: 1 to the highest, less 10, which is withdrawn and gets no second meaning.
+-- The numbers in use, told by a test and as a fact: 1 to the highest, less 10 and 12, which are withdrawn and get no second meaning.
 abbrev pub numberInUse : ℕ → Bool
-numberInUse n = leb 1 n && (leb n highestRefusal && not (eqb n 10))
+numberInUse n = leb 1 n && (leb n highestRefusal && (not (eqb n 10) && not (eqb n 12)))
 
 abbrev pub NumberInUse : ℕ → Type 0
-NumberInUse n = (1 ≤ n) × (n ≤ highestRefusal) × (n ≡ 10 → ⊥)
+NumberInUse n = (1 ≤ n) × (n ≤ highestRefusal) × (n ≡ 10 → ⊥) × (n ≡ 12 → ⊥)
 
 -- Every refusal has such a number, and no two have the same. Proofs: proofs/Refusals.antt.
 abbrev pub RefusalsInUse : Type 0
@@ -62,7 +61,6 @@ rustWords StateNotWhole = added ∷ []
 rustWords TooManyReferences = panics ∷ []
 rustWords NoReferences = asserts ∷ []
 rustWords ForwardListEmpty = asserts ∷ []
-rustWords BackwardListEmpty = asserts ∷ []
 rustWords SameNumber = EVC-ERR ∷ []
 rustWords NoSuchPlace = panics ∷ EVC-ERR ∷ []
 rustWords BadLayer = added ∷ never-returns ∷ []

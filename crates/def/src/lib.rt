@@ -63,7 +63,7 @@ pub fn slice_type_of(byte: u8) -> SliceType
     }
 }
 
-// A call that is turned down says why by one of these; `refusal_number` is its number. 10 is withdrawn and is not used again.
+// A call that is turned down says why by one of these; `refusal_number` is its number. 10 and 12 are withdrawn and not used again.
 pub enum Refusal {
     SizeTooBig,
     // Document 01 calls it rack full.
@@ -77,7 +77,6 @@ pub enum Refusal {
     TooManyReferences,
     NoReferences,
     ForwardListEmpty,
-    BackwardListEmpty,
     // Document 01 calls it twin.
     SameNumber,
     NoSuchPlace,
@@ -88,16 +87,17 @@ pub enum Refusal {
     BadPlan,
 }
 
-// The highest number of a refusal, and the one that is withdrawn.
 const HIGHEST_REFUSAL: u8 = 19;
+// Numbers below it that are withdrawn: an old reference was met, and the backward list is empty.
+const OLD_REFERENCE: u8 = 10;
 
-const WITHDRAWN: u8 = 10;
+const BACKWARD_LIST_EMPTY: u8 = 12;
 
 // Whether a status is the number of a refusal.
 pub fn is_refusal_number(n: u8) -> bool
     ensures { λ r. ⌜ r ≡ numberInUse n ⌝ }
 {
-    (1 <= n) & ((n <= HIGHEST_REFUSAL) & !(n == WITHDRAWN))
+    (1 <= n) & ((n <= HIGHEST_REFUSAL) & (!(n == OLD_REFERENCE) & !(n == BACKWARD_LIST_EMPTY)))
 }
 
 pub fn refusal_number(r: Refusal) -> u8
@@ -114,7 +114,6 @@ pub fn refusal_number(r: Refusal) -> u8
         Refusal::TooManyReferences => 8,
         Refusal::NoReferences => 9,
         Refusal::ForwardListEmpty => 11,
-        Refusal::BackwardListEmpty => 12,
         Refusal::SameNumber => 13,
         Refusal::NoSuchPlace => 14,
         Refusal::BadLayer => 15,

@@ -75,7 +75,7 @@ module _ (a : Ask) (up : Bool) where
           rw (step-takes a up p k t) (one-more k ks (p .list) _ (s .0) (s .1) (rest (record { list = p .list ++ (k ∷ []); bound = a .after (k .layer) })))
       go false t rest = rw (step-leaves a up p k t) (passed-by k ks (p .list) _ (rest p))
 
-  grows : (ks list : List Key) → Grown a up (walked up ks) list (pass a up ks list)
+  pub grows : (ks list : List Key) → Grown a up (walked up ks) list (pass a up ks list)
   unfolding pass
   grows ks list = pass-grows (record { list = list; bound = a .start }) (walked up ks)
 

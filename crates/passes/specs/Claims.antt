@@ -1,15 +1,15 @@
 -- What is claimed of a pass over an order. A second way to build the lists, and whoever asks why a picture is not in one, rest on these.
--- Proofs: proofs/PassLaws.antt, proofs/Taken.antt.
+-- Proofs: proofs/PassLaws.antt, proofs/Taken.antt, proofs/Backward.antt.
 -- Assumes nothing.
 use Prim.Native.Nat.{_≤_}
 use mathlib.Core.Path.{_≡_}
-use mathlib.Core.Bool.{Bool, false, not}
-use mathlib.Core.List.{List, _++_}
+use mathlib.Core.Bool.{Bool, true, false, not}
+use mathlib.Core.List.{List, [], _++_}
 use lib.ListN.{length, take}
 use Rattle.seq.specs.Lists.{select}
 use Rattle.ordering.specs.Order.{Key}
 use Rattle.passes.specs.declared.Walk.{Walk}
-use Rattle.passes.specs.Passes.{Ask, Progress, passOn, listOf}
+use Rattle.passes.specs.Passes.{Ask, Progress, passOn, pass, listOf}
 
 -- ---- a pass, from every list and every bound
 
@@ -42,3 +42,17 @@ PassingOver = (a : Ask) (up : Bool) (p : Progress) (ks : List Key) → passOn a 
 -- So is every list.
 abbrev pub ListsPassOver : Type 0
 ListsPassOver = (a : Ask) (walk : Walk) (ks : List Key) → listOf a walk ks ≡ listOf (ageless a) walk (young a ks)
+
+-- ---- the backward list of B, for every request, order, limit and layer, with old pictures passed over
+
+-- A pass that takes nothing from the empty list gives back every list it is handed: the bound never moves, and limit 0 is the full list.
+abbrev pub NothingTaken : Type 0
+NothingTaken = (a : Ask) (up : Bool) (ks list : List Key) → pass a up ks [] ≡ [] → pass a up ks list ≡ list
+
+-- When the forward list has an entry, the backward list has one: so no list call has an empty backward list to tell of.
+abbrev pub BackwardHasEntry : Type 0
+BackwardHasEntry = (a : Ask) (ks : List Key) → (listOf a Walk.DownThenUp ks ≡ [] → ⊥) → listOf a Walk.UpThenDown ks ≡ [] → ⊥
+
+-- If going up takes nothing from the empty list, the backward list is the forward list.
+abbrev pub BackwardIsForward : Type 0
+BackwardIsForward = (a : Ask) (ks : List Key) → pass a true ks [] ≡ [] → listOf a Walk.UpThenDown ks ≡ listOf a Walk.DownThenUp ks

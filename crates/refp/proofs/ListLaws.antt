@@ -16,12 +16,13 @@ use Rattle.def.specs.declared.{Slot.Slot, EvcPm.EvcPm, EvcRefP.EvcRefP, RefpCal
 use Rattle.whole.specs.Whole.{whole}
 use Rattle.whole.specs.Laws.{whole-rules, rules-whole}
 use Rattle.ordering.specs.Order.{Key, keyOf, down, MarkedKey}
-use Rattle.choosing.specs.Choice.{turned-down, chosen, isB, forwardOf, backwardOf, withBackward, withForward, choice, of-b, of-other, Accepted}
+use Rattle.choosing.specs.Choice.{turned-down, chosen, isB, forwardOf, backwardOf, withForward, choice, of-b, of-other, Accepted}
 use Rattle.ordering.proofs.OrderLaws.{down-length, down-members, down-distinct}
 use Rattle.passes.proofs.Taken.{Taken}
+use Rattle.choosing.proofs.BackwardSome.{no-entry, backward-some}
 use Rattle.choosing.proofs.Accepted.{forward-taken, backward-taken}
 use Rattle.refp.specs.Lists.{refused, counted, listed, settled, isI, listsWhole, lists}
-use Rattle.refp.specs.Claims.{Asked, SomeMarked, ForwardOfB, ListsReason, not-whole, too-high, too-many-marked, none-marked, forward-empty, backward-empty, Holds, Built, ListsWhy, ListsRefusedUnchanged, ListsStayWhole, OnlyCounts, ListsBuilt}
+use Rattle.refp.specs.Claims.{Asked, SomeMarked, ListsReason, not-whole, too-high, too-many-marked, none-marked, forward-empty, Holds, Built, ListsWhy, ListsRefusedUnchanged, ListsStayWhole, OnlyCounts, ListsBuilt}
 use Rattle.refp.proofs.Written.{TwoLists, both-long, forward-place, forward-rest, backward-place, backward-rest}
 
 -- ---- with the test of the state in front
@@ -31,10 +32,6 @@ unfolding lists
 on-whole pm refp c h = rw h
 
 -- ---- the ways in which a call ends
-
-no-entry : (ks : List Key) → length ks ≡ 0 → ks ≡ []
-no-entry [] e = refl
-no-entry (k ∷ ks) e = absurd (omega arith)
 
 -- Each with its condition and what it gives.
 pub data ListsEnd (pm : EvcPm) (refp : List EvcRefP) (c : RefpCall) : RefpResult → Type 0 where
@@ -59,27 +56,18 @@ module _ (pm : EvcPm) (refp : List EvcRefP) (c : RefpCall) where
     some : length order ≡ 0 → ⊥
     some z = m .some (sym (down-length (pm .pic)) ∙ z)
 
-    module _ (n : length fwd ≡ 0 → ⊥) where
-      backward-ends : isB (c .«slice_type») ≡ true → ListsEnd pm refp c (settled pm refp (withBackward fwd bwd))
-      backward-ends b = pick (eqb (length bwd) 0) refl
-        where
-          pick : (z : Bool) → eqb (length bwd) 0 ≡ z → ListsEnd pm refp c (settled pm refp (cond z (turned-down Refusal.BackwardListEmpty) (chosen fwd bwd)))
-          pick true z =
-              refuses Refusal.BackwardListEmpty (backward-empty (record { marked = m; is-b = b; has-entry = n }) (no-entry bwd (eqb-true (length bwd) 0 z)))
-          pick false z =
-              builds (m .asked) fwd bwd
-              (record { at-most = few; some = some; forward-is = refl; forward-some = n; backward-is = of-b b refl (eqb-false (length bwd) 0 z) })
-
-      forward-ends : (b : Bool) → isB (c .«slice_type») ≡ b → ListsEnd pm refp c (settled pm refp (cond b (withBackward fwd bwd) (chosen fwd [])))
-      forward-ends true b = backward-ends b
-      forward-ends false b =
-          builds (m .asked) fwd [] (record { at-most = few; some = some; forward-is = refl; forward-some = n; backward-is = of-other b refl })
+    forward-ends : (length fwd ≡ 0 → ⊥) → (b : Bool) → isB (c .«slice_type») ≡ b → ListsEnd pm refp c (settled pm refp (chosen fwd (cond b bwd [])))
+    forward-ends n true b =
+        builds (m .asked) fwd bwd
+        (record { at-most = few; some = some; forward-is = refl; forward-some = n; backward-is = of-b b refl (backward-some c order b n) })
+    forward-ends n false b =
+        builds (m .asked) fwd [] (record { at-most = few; some = some; forward-is = refl; forward-some = n; backward-is = of-other b refl })
 
     passes-end : ListsEnd pm refp c (settled pm refp (withForward (isB (c .«slice_type»)) bwd fwd))
     passes-end = pick (eqb (length fwd) 0) refl
       where
         pick : (z : Bool) → eqb (length fwd) 0 ≡ z
-            → ListsEnd pm refp c (settled pm refp (cond z (turned-down Refusal.ForwardListEmpty) (cond (isB (c .«slice_type»)) (withBackward fwd bwd) (chosen fwd []))))
+            → ListsEnd pm refp c (settled pm refp (cond z (turned-down Refusal.ForwardListEmpty) (chosen fwd (cond (isB (c .«slice_type»)) bwd []))))
         pick true z = refuses Refusal.ForwardListEmpty (forward-empty m (no-entry fwd (eqb-true (length fwd) 0 z)))
         pick false z = forward-ends (eqb-false (length fwd) 0 z) (isB (c .«slice_type»)) refl
 
@@ -125,9 +113,6 @@ module _ (pm : EvcPm) (refp : List EvcRefP) (c : RefpCall) where
   unfolding choice
   marked-answer m = asked-answer (m .asked) ∙ rw (le-ltb listPlaces (length order) (few m), ne-eqb (length order) 0 (some m))
 
-  forward-answer : (f : ForwardOfB pm c) → lists pm refp c ≡ settled pm refp (withBackward fwd bwd)
-  forward-answer f = marked-answer (f .marked) ∙ rw (ne-eqb (length fwd) 0 (f .has-entry), f .is-b)
-
   pub reason-refuses : {why : Refusal} → ListsReason pm c why → lists pm refp c ≡ refused why pm refp
   unfolding lists listsWhole choice
   reason-refuses (not-whole w) = rw w
@@ -137,7 +122,6 @@ module _ (pm : EvcPm) (refp : List EvcRefP) (c : RefpCall) where
       let e : length order ≡ 0 = down-length (pm .pic) ∙ z in
       asked-answer a ∙ rw (le-ltb listPlaces (length order) (omega arith), eq-eqb (length order) 0 e)
   reason-refuses (forward-empty m e) = marked-answer m ∙ rw e
-  reason-refuses (backward-empty f e) = forward-answer f ∙ rw e
 
 pub lists-why : ListsWhy
 lists-why pm refp c why = (because (lists-end pm refp c), λ r. ap (λ (x : RefpResult). x .answer) (reason-refuses pm refp c r))

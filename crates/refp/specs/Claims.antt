@@ -11,7 +11,7 @@ use Rattle.def.specs.State.{listPlaces, highestPoc, noRefP, isMarked, withCount
 use Rattle.def.specs.declared.{EvcPm.EvcPm, EvcRefP.EvcRefP, RefpCall.RefpCall, RefpResult.RefpResult, Answer.Answer, Refusal.Refusal}
 use Rattle.whole.specs.Whole.{whole}
 use Rattle.ordering.specs.Order.{Key, down, MarkedKey}
-use Rattle.choosing.specs.Choice.{isB, forwardOf, backwardOf, Accepted}
+use Rattle.choosing.specs.Choice.{forwardOf, Accepted}
 use Rattle.refp.specs.Lists.{entryOf, dropped, isI, refused, lists}
 use Rattle.refp.specs.Copy.{firstEntries, copy}
 
@@ -29,19 +29,12 @@ pub record SomeMarked (pm : EvcPm) (c : RefpCall) : Type 0 where
   pub at-most : count isMarked (pm .pic) ≤ listPlaces
   pub some : count isMarked (pm .pic) ≡ 0 → ⊥
 
--- The forward list of a slice B has an entry.
-pub record ForwardOfB (pm : EvcPm) (c : RefpCall) : Type 0 where
-  pub marked : SomeMarked pm c
-  pub is-b : isB (c .«slice_type») ≡ true
-  pub has-entry : length (forwardOf c (down (pm .pic))) ≡ 0 → ⊥
-
 pub data ListsReason (pm : EvcPm) (c : RefpCall) : Refusal → Type 0 where
   not-whole : whole pm ≡ false → ListsReason pm c Refusal.StateNotWhole
   too-high : whole pm ≡ true → highestPoc < c .poc → ListsReason pm c Refusal.NumberTooHigh
   too-many-marked : Asked pm c → listPlaces < count isMarked (pm .pic) → ListsReason pm c Refusal.TooManyReferences
   none-marked : Asked pm c → count isMarked (pm .pic) ≡ 0 → ListsReason pm c Refusal.NoReferences
   forward-empty : SomeMarked pm c → forwardOf c (down (pm .pic)) ≡ [] → ListsReason pm c Refusal.ForwardListEmpty
-  backward-empty : ForwardOfB pm c → backwardOf c (down (pm .pic)) ≡ [] → ListsReason pm c Refusal.BackwardListEmpty
 
 abbrev pub ListsWhy : Type 0
 ListsWhy = (pm : EvcPm) (refp : List EvcRefP) (c : RefpCall) (why : Refusal) → (lists pm refp c .answer ≡ Answer.Refused why) ↔ ListsReason pm c why

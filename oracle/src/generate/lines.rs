@@ -109,7 +109,7 @@ impl LineMaker {
             (Ok(Answer::NotYet | Answer::NoMore), _) => self.rng.chance(32),
             (Ok(_), _) => !fills_the_store(call, &self.machine),
             (Err(_), Refusals::Every) => self.rng.chance(100),
-            (Err(5 | 8..=12), Refusals::Few) => false,
+            (Err(5 | 8..=11), Refusals::Few) => false,
             // The original has no limit on a derived number.
             (Err(6), Refusals::Few) if matches!(call, Call::Derive { .. }) => false,
             (Err(_), Refusals::Few) => self.rng.chance(16),

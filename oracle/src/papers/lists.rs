@@ -83,9 +83,6 @@ impl Walks<'_> {
         if is_b {
             self.pass(Side::Higher, &mut backward);
             self.pass(Side::Lower, &mut backward);
-            if backward.is_empty() {
-                return Err(12);
-            }
         }
         Ok((forward, backward))
     }
