@@ -37,7 +37,7 @@ abbrev pub backwardOf : RefpCall → List Key → List Key
 backwardOf c ks = listOf (askOf c) Walk.UpThenDown ks
 
 -- The forward list is empty (11), or both lists are chosen; slices other than B have no backward list. That of B has an entry wherever the
--- forward list has one (`BackwardHasEntry` in Claims.antt), so nothing is asked of it.
+-- forward list has one (`BackwardHasEntry` of crate `passes`), so nothing is asked of it.
 abbrev pub withForward : Bool → List Key → List Key → Chosen
 withForward both bwd fwd = cond (eqb (length fwd) 0) (turned-down Refusal.ForwardListEmpty) (chosen fwd (cond both bwd []))
 

@@ -4,7 +4,6 @@ pub mod word;
 
 ghost use mathlib.Core.Path.{_≡_};
 ghost use Rattle.def.specs.Constants.{sliceTypeOf};
-ghost use mathlib.Core.Bool.{_&&_};
 ghost use Rattle.def.specs.Refusals.{refusalNumber, numberInUse};
 ghost use Rattle.def.specs.State.{newPic, emptySlot};
 

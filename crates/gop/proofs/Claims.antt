@@ -26,7 +26,7 @@ use Rattle.poc.proofs.Why.{derive-why, derive-refused}
 use Rattle.gop.specs.declared.{PicturePlan.PicturePlan, PlanAnswer.PlanAnswer, Planning.Planning}
 use Rattle.gop.specs.Plan as P
 use Rattle.gop.specs.Group.{isPlanned, plannedNumber, planOf, Group, PlannedRun, firstOf, laterOf}
-use Rattle.gop.specs.Claims.{RefusedKeeps, NeverBadLayer, PlansAreFullRun, GroupsExist, EightAsListed}
+use Rattle.gop.specs.Claims.{RefusedKeeps, NeverBadLayer, PlansAreFullRun, GroupsExist, EightAsListed, KeyBeforeMultiple, MultipleReadsNone}
 use Rattle.gop.proofs.Lengths.{Length, a-length, layerAt, layer-fits}
 use Rattle.gop.proofs.Derivations.{all-between}
 
@@ -131,6 +131,14 @@ groups-exist length k e h =
 pub eight-as-listed : EightAsListed
 unfolding depthRule layersFrom Ieee.size Ieee.span Ieee.climb floorLog2
 eight-as-listed = (refl, refl)
+
+pub key-before-multiple : KeyBeforeMultiple
+unfolding P.plan
+key-before-multiple r = refl
+
+pub multiple-reads-none : MultipleReadsNone
+unfolding P.plan
+multiple-reads-none r = refl
 
 -- ---- a plan that is turned down
 

@@ -5,12 +5,12 @@ use mathlib.Core.Bool.{Bool, true}
 use mathlib.Core.List.{[], _∷_, map}
 use Rattle.def.specs.Binary.{floorLog2}
 use Rattle.def.specs.Constants.{sliceTypeOf}
-use Rattle.def.specs.declared.{EvcPoc.EvcPoc, Refusal.Refusal}
+use Rattle.def.specs.declared.{EvcPoc.EvcPoc, Refusal.Refusal, SliceType.SliceType}
 use Rattle.tbl.specs.DepthRows.{isGopSize}
 use Rattle.poc.specs.PictureNumber.{maxPoc}
 use Rattle.poc.specs.FullRun.{fullLayers}
 use Rattle.gop.specs.declared.PlanAnswer.{PlanAnswer}
-use Rattle.gop.specs.Plan.{isInter, depthOf, plan}
+use Rattle.gop.specs.Plan.{isInter, atCount, depthOf, plan}
 use Rattle.gop.specs.Group.{Group, PlannedRun, firstOf, laterOf}
 
 -- A plan that is turned down leaves the record as it was.
@@ -42,3 +42,11 @@ abbrev pub EightAsListed : Type 0
 EightAsListed =
     (map (λ place. depthOf place - 1) (1 ∷ 2 ∷ 3 ∷ 4 ∷ 5 ∷ 6 ∷ 7 ∷ []) ≡ fullLayers 3)
     × (fullLayers 3 ≡ 1 ∷ 2 ∷ 2 ∷ 3 ∷ 3 ∷ 3 ∷ 3 ∷ [])
+
+-- For example: count 8 with interval 8 is a key picture, I, before it is a multiple of the length.
+abbrev pub KeyBeforeMultiple : Type 0
+KeyBeforeMultiple = (r : EvcPoc) → plan 8 8 8 3 true r ≡ atCount SliceType.«EVC_ST_I» 0 8
+
+-- For example: at a multiple of the length nothing of the record is read, so any record will do.
+abbrev pub MultipleReadsNone : Type 0
+MultipleReadsNone = (r : EvcPoc) → plan 8 8 0 2 true r ≡ atCount SliceType.«EVC_ST_P» 1 8

@@ -10,7 +10,7 @@ use borrow.Author.Tests.{le-ltb, ltb-false}
 use Rattle.passes.specs.declared.Walk.{Walk}
 use Rattle.ordering.specs.Order.{Key}
 use Rattle.passes.specs.Passes.{Ask, Progress, walked, sideOf, takesKey, stepOn, passOn, pass, listOf}
-use Rattle.passes.specs.Claims.{NothingTaken, BackwardHasEntry, BackwardIsForward}
+use Rattle.passes.specs.Claims.{NothingTaken, BackwardHasEntry, BackwardIsForward, NothingHigher}
 use Rattle.passes.proofs.PassLaws.{step-takes, step-leaves}
 use Rattle.passes.proofs.Taken.{pass-grows, grows}
 
@@ -74,3 +74,7 @@ backward-is-forward a ks e = ap (pass a false ks) e ∙ sym (nothing-taken a tru
 
 pub backward-has-entry : BackwardHasEntry
 backward-has-entry a ks some e = some (sym (backward-is-forward a ks (up-nothing a ks e)) ∙ e)
+
+pub nothing-higher : NothingHigher
+unfolding passOn pass
+nothing-higher = refl

@@ -1,15 +1,15 @@
 -- What is claimed of a pass over an order. A second way to build the lists, and whoever asks why a picture is not in one, rest on these.
 -- Proofs: proofs/PassLaws.antt, proofs/Taken.antt, proofs/Backward.antt.
 -- Assumes nothing.
-use Prim.Native.Nat.{_≤_}
+use Prim.Native.Nat.{ℕ, _≤_}
 use mathlib.Core.Path.{_≡_}
 use mathlib.Core.Bool.{Bool, true, false, not}
-use mathlib.Core.List.{List, [], _++_}
+use mathlib.Core.List.{List, [], _∷_, _++_}
 use lib.ListN.{length, take}
 use Rattle.seq.specs.Lists.{select}
 use Rattle.ordering.specs.Order.{Key}
 use Rattle.passes.specs.declared.Walk.{Walk}
-use Rattle.passes.specs.Passes.{Ask, Progress, passOn, pass, listOf}
+use Rattle.passes.specs.Passes.{Ask, Progress, below, passOn, pass, listOf}
 
 -- ---- a pass, from every list and every bound
 
@@ -56,3 +56,14 @@ BackwardHasEntry = (a : Ask) (ks : List Key) → (listOf a Walk.DownThenUp ks �
 -- If going up takes nothing from the empty list, the backward list is the forward list.
 abbrev pub BackwardIsForward : Type 0
 BackwardIsForward = (a : Ask) (ks : List Key) → pass a true ks [] ≡ [] → listOf a Walk.UpThenDown ks ≡ listOf a Walk.DownThenUp ks
+
+-- A request of B at number 8, layer 1, with no age test, and pictures of layer 0.
+abbrev pub atEight : Ask
+atEight = record { limit = 21; poc = 8; old = λ _. false; start = 0; after = below }
+
+abbrev pub keyAt : ℕ → ℕ → Key
+keyAt n slot = record { poc = n; layer = 0; slot = slot }
+
+-- For example: where nothing is higher, the backward list takes more than its first entry, all that the forward list takes.
+abbrev pub NothingHigher : Type 0
+NothingHigher = listOf atEight Walk.UpThenDown (keyAt 4 1 ∷ keyAt 0 0 ∷ []) ≡ keyAt 4 1 ∷ keyAt 0 0 ∷ []

@@ -14,7 +14,7 @@ use words::write_signed;
 ghost use mathlib.Core.Path.{_≡_};
 ghost use lib.ListN.{length};
 ghost use Rattle.words.specs.Words.{pocWidth, pocBytes};
-ghost use Rattle.planning.specs.Planned.{planLeft, sliceByte, planWidth, planBytes, shownPlan, isPlanCall, planCalled};
+ghost use Rattle.planning.specs.Planned.{planLeft, sliceByte, planWidth, planBytes, shownPlan, planCalled};
 
 const RECORD_LENGTH: usize = 12;
 

@@ -1,14 +1,10 @@
 -- What a call makes of a machine taken apart is what the definition makes of the machine.
 -- Assumes nothing.
 use mathlib.Core.Path.{_≡_, refl, sym, ap, _∙_}
-use mathlib.Core.Bool.{Bool, true, false, _&&_, true≢false}
+use mathlib.Core.Bool.{Bool, true, false, true≢false}
 use mathlib.Core.List.{List}
-use Prim.Native.Nat.{ℕ, _≤_}
-use native.Mathlib.Omega.{arith}
-use lib.Dec.{leb}
+use Prim.Native.Nat.{ℕ}
 use lib.ListN.{length, length-map}
-use borrow.Author.Tests.{leb-true, le-leb}
-use Rattle.seq.specs.All.{and-left, and-right, and-both}
 use Rattle.def.proofs.Refusals.{refusals-in-use}
 use Rattle.def.specs.State.{slots}
 use Rattle.def.specs.declared.{EvcPm.EvcPm, EvcPoc.EvcPoc}

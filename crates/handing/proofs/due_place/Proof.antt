@@ -1,13 +1,12 @@
 -- `handing::due_place` meets its contract: what the walk finds from here is what it finds from the start, and some slot passed so far is
 -- wanted or some of the rest is. Assumes nothing.
-use mathlib.Core.Path.{_≡_, refl, sym, ap, _∙_}
-use mathlib.Core.Bool.{Bool, true, false, _&&_, _||_, and-false, or-false}
+use mathlib.Core.Path.{_≡_, refl, sym, _∙_}
+use mathlib.Core.Bool.{Bool, true, false, _||_, and-false, or-false}
 use mathlib.Core.List.{List}
 use Prim.Native.Nat.{ℕ, _+_, _-_, _≤_, _<_}
 use native.Mathlib.Omega.{arith}
 use borrow.Author.Needs.{needs}
 use borrow.Author.Tests.{le-leb, lt-leb}
-use lib.Dec.{leb}
 use lib.ListN.{length, drop, getD}
 use Rattle.seq.specs.Lists.{any, lowest}
 use Rattle.seq.specs.Lowest.{lowest-hit, lowest-miss, lowest-end}

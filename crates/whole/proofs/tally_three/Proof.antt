@@ -8,7 +8,7 @@ use borrow.Author.Needs.{needs}
 use borrow.Author.Tests.{eqb-true}
 use Rattle.seq.specs.All.{and-left, and-right}
 use Rattle.whole.specs.declared.Tally.{Tally}
-use Rattle.whole.specs.Tallies.{Roomy, tallied}
+use Rattle.whole.specs.Tallies.{tallied}
 use Rattle.whole.proofs.tally_three.Statement.{statement}
 use Rattle.whole.proofs.tally_three.Tie as tie
 
