@@ -35,6 +35,10 @@ isChecked bs = ltb 0 (length bs) && eqb (sum8 bs) 0
 unfoldable pub bodyOf : List ℕ → List ℕ
 bodyOf bs = take (length bs - 1) bs
 
+-- Characters that are a framed line: pairs of digits, whose bytes end with a check byte.
+abbrev pub isFramed : List ℕ → Bool
+isFramed cs = isHex cs && isChecked (bytesOf cs)
+
 -- A kind of line: which bodies it has and which record each stands for, and the body of a record.
 pub record Kind (A : Type 0) : Type 0 where
   pub meaning : List ℕ → Option A

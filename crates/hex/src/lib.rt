@@ -3,8 +3,9 @@ pub mod tables;
 
 ghost use mathlib.Core.Path.{_≡_};
 ghost use mathlib.Core.Bool.{true};
-ghost use Prim.Native.Nat.{_+_, _*_, _/_, _%_, _<_};
+ghost use Prim.Native.Nat.{_+_, _-_, _*_, _/_, _%_, _<_};
 ghost use Rattle.hex.specs.Hex.{isDigit, digitValue, digitOf, sum8, word};
+ghost use Rattle.hex.specs.Frame.{isChecked};
 
 pub fn is_digit(c: u8) -> bool
     ensures { λ r. ⌜ r ≡ isDigit c ⌝ }
@@ -39,6 +40,20 @@ pub fn sum8(bytes: &[u8]) -> u8
         i += 1;
     }
     sum
+}
+
+// Whether bytes end with a check byte: at least that one, and a sum of zero.
+pub fn is_checked(bytes: &[u8]) -> bool
+    ensures { λ r. ⌜ r ≡ isChecked (now (bytes .entry)) ⌝ }
+{
+    (0 < bytes.len()) & (sum8(bytes) == 0)
+}
+
+// The check byte of bytes with this sum.
+pub fn check_byte(sum: u8) -> u8
+    ensures { λ r. ⌜ r ≡ (256 - sum) % 256 ⌝ }
+{
+    std::num::wrapping_sub_u8(0, sum)
 }
 
 // Four bytes, the highest first.

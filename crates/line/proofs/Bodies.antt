@@ -75,7 +75,7 @@ module _ (b : List ℕ) (h : AreBytes b) (r : Reply) where
       let f = reply-found (eqb (length b) 7) refl e in
       subst ReplyFits (f .1) (record { call = byte-fits b h 0; status = byte-fits b h 1; buf = byte-fits b h 2; value = word-fits b h 3 4 5 6 })
 
-answers-lawful : Lawful answerKind ReplyFits
+pub answers-lawful : Lawful answerKind ReplyFits
 unfolding answerKind AreBytes
 answers-lawful =
     record {
@@ -170,7 +170,7 @@ call-reads OutPic f = refl
 call-reads (RefpInit slice poc layer intra limit) f = rw (word-of-bytes poc (f .1), word-of-bytes intra (f .3))
 call-reads (PocDerivation length layer) f = refl
 
-calls-lawful : Lawful callKind CallFits
+pub calls-lawful : Lawful callKind CallFits
 unfolding callKind
 calls-lawful =
     record {

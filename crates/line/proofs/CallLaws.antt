@@ -17,9 +17,9 @@ use Rattle.hex.specs.Frame.{isChecked, bodyOf, fromBytes, byteAt}
 use Rattle.line.specs.Calls.{longestLine, isCall, callIn, callKind, lineFor, readLine}
 
 -- The body of a call has 12 bytes at most.
-no-call : (b : List ℕ) → 12 < length b → callIn b ≡ none
+pub longest-body : (b : List ℕ) → 12 < length b → callIn b ≡ none
 unfolding callIn
-no-call b h =
+longest-body b h =
     rw (
       no 1 3 (λ (e : length b ≡ 3). omega arith),
       no 2 1 (λ (e : length b ≡ 1). omega arith),
@@ -37,7 +37,7 @@ unfolding readLine callKind
 too-long cs h = by-hex (all isDigit cs) (eqb (length cs % 2) 0) refl
   where
     by-sum : length cs % 2 ≡ 0 → (b : Bool) → lineFor (cond b (callIn (bodyOf (bytesOf cs))) none) ≡ Bad
-    by-sum e true = ap lineFor (no-call (bodyOf (bytesOf cs)) (omega (arith, bytes-length cs, body-length (bytesOf cs))))
+    by-sum e true = ap lineFor (longest-body (bodyOf (bytesOf cs)) (omega (arith, bytes-length cs, body-length (bytesOf cs))))
     by-sum e false = refl
 
     by-hex : (a b : Bool) → eqb (length cs % 2) 0 ≡ b → lineFor (cond (a && b) (fromBytes callKind (bytesOf cs)) none) ≡ Bad

@@ -1,11 +1,12 @@
 // Lines of the program: calls that are read, answers that are written, both as lower-case hex pairs with a check byte.
 use def::Answer;
+use framing::read_framed;
+use hex::check_byte;
 use hex::high_digit;
+use hex::is_checked;
 use hex::low_digit;
 use hex::sum8;
 use hex::word;
-use pairs::LONGEST_CALL;
-use pairs::decode;
 ghost use mathlib.Core.Path.{_≡_};
 ghost use Prim.Native.Nat.{_+_, _*_, _/_, _%_, _<_};
 ghost use lib.ListN.{length};
@@ -16,6 +17,9 @@ ghost use Rattle.line.specs.Answers.{noBuffer, reply, replyOf, replyByte
 
 // The longest call line has 26 digits.
 pub const LONGEST_LINE: usize = 26;
+
+// And 13 bytes.
+const LONGEST_CALL: usize = 13;
 
 // Where there is no buffer number the line shows this.
 const NO_BUFFER: u8 = 0xff;
@@ -122,7 +126,7 @@ fn lists_in(body: &[u8]) -> Call
 }
 
 // The call that a body stands for, by its call byte and its length.
-fn call_in(body: &[u8]) -> Line
+pub fn call_in(body: &[u8]) -> Line
     ensures { λ r. ⌜ r ≡ lineFor (callIn (now (body .entry))) ⌝ }
 {
     if is_call(body, 1, 3) {
@@ -156,10 +160,7 @@ fn call_in(body: &[u8]) -> Line
 pub fn read_call(bytes: &[u8]) -> Line
     ensures { λ r. ⌜ r ≡ callFrom (now (bytes .entry)) ⌝ }
 {
-    if bytes.len() == 0 {
-        return Line::Bad;
-    }
-    if sum8(bytes) != 0 {
+    if !is_checked(bytes) {
         return Line::Bad;
     }
     let n = bytes.len() - 1;
@@ -173,15 +174,12 @@ pub fn read_line(digits: &[u8]) -> Line
     if digits.len() > LONGEST_LINE {
         return Line::Bad;
     }
-    if digits.len() % 2 != 0 {
-        return Line::Bad;
-    }
     let mut bytes = [0u8; LONGEST_CALL];
-    if !decode(digits, &mut bytes) {
+    if !read_framed(digits, &mut bytes) {
         return Line::Bad;
     }
-    let n = digits.len() / 2;
-    read_call(&bytes[..n])
+    let n = digits.len() / 2 - 1;
+    call_in(&bytes[..n])
 }
 
 // The fields of an answer that shows no picture.
@@ -242,7 +240,7 @@ pub fn answer_bytes(reply: Reply) -> [u8; 8]
         0,
     ];
     let sum = sum8(&bytes);
-    bytes[7] = std::num::wrapping_sub_u8(0, sum);
+    bytes[7] = check_byte(sum);
     bytes
 }
 

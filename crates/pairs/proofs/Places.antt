@@ -44,7 +44,7 @@ pair-value cs i e =
     rw (v, w) (omega arith)
 
 -- A digit is no newline.
-not-newline : (c : ℕ) → isDigit c ≡ true → isNewline c ≡ false
+pub not-newline : (c : ℕ) → isDigit c ≡ true → isNewline c ≡ false
 not-newline = each-digit (λ (c v : ℕ). isNewline c ≡ false) (λ c h k. from c (omega arith)) (λ c h k. from c (omega arith))
   where
     from : (c : ℕ) → 10 < c → isNewline c ≡ false

@@ -6,14 +6,11 @@ use hex::tables::TABLE_SIZE;
 use hex::word;
 ghost use mathlib.Core.Path.{_≡_};
 ghost use mathlib.Core.Bool.{true};
-ghost use Prim.Native.Nat.{_+_, _/_, _%_, _≤_, _<_};
+ghost use Prim.Native.Nat.{_+_, _*_, _/_, _%_, _≤_, _<_};
 ghost use lib.ListN.{length, take};
 ghost use Rattle.seq.specs.Lists.{all};
 ghost use Rattle.hex.specs.Hex.{isDigit, bytesOf, charValue, digitTables};
 ghost use Rattle.pairs.specs.Pairs.{isLineAt, pairOf, quadOf, Opened, Checked, TwoSeen, FieldsSeen};
-
-// The longest call line has 13 bytes.
-pub const LONGEST_CALL: usize = 13;
 
 // The byte that two characters stand for, and whether they are digits.
 pub struct Pair {
@@ -46,8 +43,8 @@ pub struct Fields {
 }
 
 // Writes the bytes that pairs of digits stand for, up to the first pair that is not two digits; says whether all are.
-pub fn decode(digits: &[u8], bytes: &mut [u8; LONGEST_CALL]) -> bool
-    requires { ⌜ (length (now digits) ≤ 26) × (length (now digits) % 2 ≡ 0) × (length (now bytes) ≡ 13) ⌝ }
+pub fn decode(digits: &[u8], bytes: &mut [u8]) -> bool
+    requires { ⌜ (length (now digits) ≤ 2 * length (now bytes)) × (length (now digits) % 2 ≡ 0) ⌝ }
     ensures hex { λ r. ⌜ r ≡ all isDigit (now (digits .entry)) ⌝ }
     ensures bytes { λ r. ⌜ (r ≡ true → take (length (now (digits .entry)) / 2) (now (bytes .exit)) ≡ bytesOf (now (digits .entry))) ⌝ }
 {

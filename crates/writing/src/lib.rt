@@ -1,10 +1,11 @@
 // Answer lines written straight into a lent buffer.
 // The public function's `requires` are met by who lends the table and has made room for each answer.
+use hex::check_byte;
 use hex::tables::TABLE_SIZE;
 use line::Reply;
 ghost use mathlib.Core.Path.{_≡_};
 ghost use mathlib.Core.List.{[], _∷_};
-ghost use Prim.Native.Nat.{_+_, _-_, _%_, _≤_};
+ghost use Prim.Native.Nat.{_+_, _≤_};
 ghost use lib.ListN.{length};
 ghost use lib.Seq.{paste};
 ghost use Rattle.seq.specs.Stores.{Stored};
@@ -49,13 +50,6 @@ fn write_number(tables: &[u16; TABLE_SIZE], out: &mut [u8], at: usize, n: u32) -
         a,
         std::num::wrapping_add_u8(b, std::num::wrapping_add_u8(c, d)),
     )
-}
-
-// The check byte of bytes with this sum.
-fn check_byte(sum: u8) -> u8
-    ensures { λ r. ⌜ r ≡ (256 - sum) % 256 ⌝ }
-{
-    std::num::wrapping_sub_u8(0, sum)
 }
 
 // Writes the line of an answer, and gives the place behind it.

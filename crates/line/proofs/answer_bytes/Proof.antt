@@ -1,11 +1,10 @@
 -- `line::answer_bytes` meets its contract: a last byte of zero adds nothing to the sum, and the one that takes its place brings it to zero.
 -- Assumes nothing.
-use Prim.Native.Nat.{ℕ}
-use native.Mathlib.Omega.{arith}
+use Prim.Native.Nat.{ℕ, _-_, _%_}
 use mathlib.Core.Path.{_≡_, ap, _∙_}
 use mathlib.Core.List.{[], _∷_, _++_}
 use Rattle.hex.specs.Hex.{sum8, checkByte}
-use Rattle.hex.proofs.HexLaws.{sum8-fits, sum8-zero}
+use Rattle.hex.proofs.HexLaws.{sum8-zero}
 use Rattle.line.specs.Answers.{replyBytes}
 use borrow.Author.Needs.{needs}
 use Rattle.line.proofs.answer_bytes.Statement.{statement}
@@ -29,8 +28,8 @@ slice-aggregate-sum8 c = search needs
 sum8-requires : tie.Need-sum8-requires
 sum8-requires c κs = search needs
 
-wrapping-sub-u8-requires : tie.Need-wrapping-sub-u8-requires
-wrapping-sub-u8-requires c κs = search needs
+check-byte-requires : tie.Need-check-byte-requires
+check-byte-requires c κs = search needs
 
 array-write-bytes : tie.Need-array-write-bytes
 array-write-bytes c = search needs
@@ -39,7 +38,7 @@ returns : tie.Need-returns
 returns c =
     let bytes = replyBytes (c .before .before .before .args .reply) in
     let sum : c .before .sum8 .result ≡ sum8 bytes = c .before .sum8 .ensures ∙ sum8-zero bytes in
-    let check : c .wrapping-sub-u8 .result ≡ checkByte bytes = omega (arith, c .wrapping-sub-u8 .ensures, sum8-fits bytes) in
+    let check : c .check-byte .result ≡ checkByte bytes = c .check-byte .ensures ∙ ap (λ (n : ℕ). (256 - n) % 256) sum in
     ap (λ (b : ℕ). bytes ++ (b ∷ [])) check
 
 pub answer-bytes-spec : {M : Type 1} → statement M
@@ -52,6 +51,6 @@ answer-bytes-spec =
     cast-t15
     slice-aggregate-sum8
     sum8-requires
-    wrapping-sub-u8-requires
+    check-byte-requires
     array-write-bytes
     returns)

@@ -1,52 +1,55 @@
--- `line::read_call` meets its contract: each way out knows which test of the bytes failed, the last that all were passed.
+-- `line::read_call` meets its contract: bytes without their check byte are Bad, and of any others the body is read.
 -- Assumes nothing.
-use Prim.Native.Nat.{ℕ, zero, suc, _<_}
-use mathlib.Core.Path.{_≡_, refl, sym, _∙_}
-use native.Mathlib.Omega.{arith}
-use Rattle.hex.specs.Frame.{bodyOf}
+use Prim.Native.Nat.{_<_}
+use mathlib.Core.Path.{_≡_, sym, _∙_}
+use mathlib.Core.Bool.{true}
+use lib.Dec.{ltb, eqb}
+use lib.ListN.{length}
+use borrow.Author.Tests.{ltb-true, not-true, not-false}
+use Rattle.seq.specs.All.{and-left}
+use Rattle.hex.specs.Hex.{sum8}
+use Rattle.hex.specs.Frame.{isChecked, bodyOf}
 use Rattle.hex.proofs.HexLaws.{body-length}
-use Rattle.line.proofs.Reading.{no-bytes, bad-sum, good-sum}
+use Rattle.line.proofs.Reading.{unchecked, checked}
 use borrow.Author.Needs.{needs}
 use Rattle.line.proofs.read_call.Statement.{statement}
 use Rattle.line.proofs.read_call.Tie as tie
 
-ne-zero : (n : ℕ) → (n ≡ 0 → ⊥) → 0 < n
-ne-zero zero h = absurd (h refl)
-ne-zero (suc n) h = omega arith
+is-checked-requires : tie.Need-is-checked-requires
+is-checked-requires c κs = search needs
 
 returns : tie.Need-returns
-returns c = sym (no-bytes _ (c .if1 .taken))
+returns c = sym (unchecked _ (sym (c .before .is-checked .ensures) ∙ not-true _ (c .if1 .taken)))
 
-sum8-requires : tie.Need-sum8-requires
-sum8-requires c κs = search needs
+has-check : (c : tie.Else1) → isChecked (c .before .before .before .args .bytes .now) ≡ true
+has-check c = sym (c .before .is-checked .ensures) ∙ not-false _ (c .if1 .left)
 
-returns-2 : tie.Need-returns-2
-returns-2 c = sym (bad-sum _ (λ e. c .if2 .taken (c .before .sum8 .ensures ∙ e)))
+some-byte : (c : tie.Else1) → 0 < length (c .before .before .before .args .bytes .now)
+some-byte c =
+    let bytes = c .before .before .before .args .bytes .now in
+    ltb-true 0 (length bytes) (and-left (ltb 0 (length bytes)) (eqb (sum8 bytes) 0) (has-check c))
 
 sub-n : tie.Need-sub-n
-sub-n c = search needs
+sub-n c = some-byte c
 
 slice-aggregate-call-in : tie.Need-slice-aggregate-call-in
 unfolding bodyOf
-slice-aggregate-call-in c = sym (body-length (c .before .before .before .before .before .args .bytes .now))
+slice-aggregate-call-in c = sym (body-length (c .before .before .before .before .args .bytes .now))
 
 call-in-requires : tie.Need-call-in-requires
 call-in-requires c κs = search needs
 
-returns-3 : tie.Need-returns-3
+returns-2 : tie.Need-returns-2
 unfolding bodyOf
-returns-3 c =
-    let summed = c .before .before .before in
-    c .call-in .ensures ∙ sym (good-sum _ (ne-zero _ (summed .before .if1 .left)) (sym (summed .sum8 .ensures) ∙ c .before .before .if2 .left))
+returns-2 c = c .call-in .ensures ∙ sym (checked _ (has-check (c .before .before)))
 
 pub read-call-spec : {M : Type 1} → statement M
 read-call-spec =
     tie.close
     (tie.spec
+    is-checked-requires
     returns
-    sum8-requires
-    returns-2
     sub-n
     slice-aggregate-call-in
     call-in-requires
-    returns-3)
+    returns-2)

@@ -1,17 +1,18 @@
--- `line::read_line` meets its contract: a line that is too long, odd or not hex is Bad, and the bytes of any other are read as a call.
+-- `line::read_line` meets its contract: a line that is too long or not framed is Bad, and of any other the body is read as a call.
 -- Assumes nothing.
-use Prim.Native.Nat.{_/_, _%_}
-use native.Mathlib.Omega.{arith}
+use Prim.Native.Nat.{ℕ, _-_, _/_}
 use mathlib.Core.Path.{_≡_, sym, ap, _∙_}
-use mathlib.Core.Bool.{Bool, _&&_}
-use lib.Dec.{eqb}
-use lib.ListN.{length, take, length-take}
+use mathlib.Core.Bool.{true}
+use mathlib.Core.List.{List}
+use lib.ListN.{length, take}
 use borrow.Author.Tests.{not-true, not-false}
 use Rattle.hex.specs.Hex.{bytesOf}
-use Rattle.line.specs.Calls.{callFrom}
-use Rattle.hex.proofs.HexLaws.{bytes-length}
+use Rattle.hex.specs.Frame.{bodyOf, isFramed}
+use Rattle.hex.proofs.HexLaws.{bytes-length, body-length}
+use Rattle.framing.proofs.Framed.{some-byte, body-at-front}
+use Rattle.line.specs.Calls.{callIn, lineFor}
 use Rattle.line.proofs.CallLaws.{too-long}
-use Rattle.line.proofs.Reading.{bad-digits, bad-pairs, hex-line}
+use Rattle.line.proofs.Reading.{not-framed, framed-line}
 use borrow.Author.Needs.{needs}
 use Rattle.line.proofs.read_line.Statement.{statement}
 use Rattle.line.proofs.read_line.Tie as tie
@@ -19,47 +20,51 @@ use Rattle.line.proofs.read_line.Tie as tie
 returns : tie.Need-returns
 returns c = sym (too-long _ (c .if1 .taken))
 
+slice-aggregate-read-framed : tie.Need-slice-aggregate-read-framed
+slice-aggregate-read-framed c = search needs
+
+read-framed-requires : tie.Need-read-framed-requires
+read-framed-requires c κs = search needs
+
 returns-2 : tie.Need-returns-2
-returns-2 c = sym (bad-pairs _ (c .if2 .taken))
+returns-2 c = sym (not-framed _ (sym (c .before .before .read-framed .ensures .0) ∙ not-true _ (c .if2 .taken)))
 
-decode-requires : tie.Need-decode-requires
-decode-requires c κs = search needs
+is-framed : (c : tie.Else2) → isFramed (c .before .before .before .before .before .before .args .digits .now) ≡ true
+is-framed c = sym (c .before .before .read-framed .ensures .0) ∙ not-false _ (c .if2 .left)
 
-returns-3 : tie.Need-returns-3
-returns-3 c = sym (bad-digits _ (ap (λ (b : Bool). b && eqb (length (c .before .before .before .before .before .before .args .digits .now) % 2) 0) (sym (c .before .decode .ensures .0) ∙ not-true _ (c .if3 .taken))))
+-- The body of the bytes that were written.
+body : (c : tie.Else2) →
+    let digits = c .before .before .before .before .before .before .args .digits .now in
+    take (length digits / 2 - 1) (c .before .before .read-framed .last .1 .0) ≡ bodyOf (bytesOf digits)
+body c = body-at-front _ _ (c .before .before .read-framed .ensures .1 (not-false _ (c .if2 .left)))
 
--- The bytes that were written.
-read : (c : tie.Else3) → take (length (c .before .before .before .before .before .before .args .digits .now) / 2) (c .before .decode .last .1 .0) ≡ bytesOf (c .before .before .before .before .before .before .args .digits .now)
-read c = c .before .decode .ensures .1 (not-false _ (c .if3 .left))
+sub-n : tie.Need-sub-n
+sub-n c = some-byte _ (is-framed c)
 
 array-share-prefix-bytes : tie.Need-array-share-prefix-bytes
-array-share-prefix-bytes c =
-    let n = length (c .before .before .before .before .before .before .args .digits .now) / 2 in
-    let bytes = c .before .decode .last .1 .0 in
-    let e : length (take n bytes) ≡ n = ap length (read c) ∙ bytes-length _ in
-    omega (arith, length-take n bytes)
+array-share-prefix-bytes c = search needs
 
-slice-aggregate-read-call : tie.Need-slice-aggregate-read-call
-slice-aggregate-read-call c = sym (ap length (read (c .before)) ∙ bytes-length _)
+slice-aggregate-call-in : tie.Need-slice-aggregate-call-in
+slice-aggregate-call-in c = sym (ap length (body (c .before)) ∙ body-length _ ∙ ap (λ (n : ℕ). n - 1) (bytes-length _))
 
-read-call-requires : tie.Need-read-call-requires
-read-call-requires c κs = search needs
+call-in-requires : tie.Need-call-in-requires
+call-in-requires c κs = search needs
 
-returns-4 : tie.Need-returns-4
-returns-4 c =
-    c .read-call .ensures
-    ∙ ap callFrom (read (c .before .before))
-    ∙ sym (hex-line _ (sym (c .before .before .before .decode .ensures .0) ∙ not-false _ (c .before .before .if3 .left)) (c .before .before .before .before .before .if2 .left))
+returns-3 : tie.Need-returns-3
+returns-3 c =
+    let line = c .before .before in
+    c .call-in .ensures ∙ ap (λ (b : List ℕ). lineFor (callIn b)) (body line) ∙ sym (framed-line _ (is-framed line))
 
 pub read-line-spec : {M : Type 1} → statement M
 read-line-spec =
     tie.close
     (tie.spec
     returns
+    slice-aggregate-read-framed
+    read-framed-requires
     returns-2
-    decode-requires
-    returns-3
+    sub-n
     array-share-prefix-bytes
-    slice-aggregate-read-call
-    read-call-requires
-    returns-4)
+    slice-aggregate-call-in
+    call-in-requires
+    returns-3)

@@ -17,13 +17,13 @@ use Rattle.pairs.proofs.decode.Tie as tie
 
 abbrev Inv-loop : tie.InvT-loop
 Inv-loop digits bytes₀ n i₀ bytes i =
-    (i ≤ n) × (length bytes ≡ 13) × (all isDigit (drop (2 * i) digits) ≡ all isDigit digits) × (take i bytes ++ bytesOf (drop (2 * i) digits) ≡ bytesOf digits)
+    (i ≤ n) × (length bytes ≡ length bytes₀) × (all isDigit (drop (2 * i) digits) ≡ all isDigit digits) × (take i bytes ++ bytesOf (drop (2 * i) digits) ≡ bytesOf digits)
 
 abbrev μ-loop : tie.MeasureT-loop
 μ-loop digits bytes₀ n i₀ bytes i = n - i
 
 loop-holds : tie.Need-loop-holds Inv-loop μ-loop
-loop-holds c = (omega arith, omega arith, refl, refl)
+loop-holds c = (omega arith, refl, refl, refl)
 
 mul-high : tie.Need-mul-high Inv-loop μ-loop
 mul-high c = omega arith
@@ -49,29 +49,32 @@ is-digit-requires-2 c κs = search needs
 -- What the two tests of a pair say.
 tested : (c : tie.After-is-digit2 Inv-loop μ-loop) →
     let l = c .before .before .before .before .before .loop in
-    let digits = c .before .before .before .before .before .before .before .args .digits .now in
+    let digits = c .before .before .before .before .before .before .before .before .args .digits .now in
     (c .before .is-digit .result && c .is-digit2 .result) ≡ (isDigit (getD digits (2 * l .i) 0) && isDigit (getD digits (2 * l .i + 1) 0))
 tested c = rw (c .before .is-digit .ensures, c .is-digit2 .ensures)
+
+same-length : tie.Need-same-length Inv-loop μ-loop
+same-length c = c .before .before .before .before .before .before .loop .inv .1
 
 returns : tie.Need-returns Inv-loop μ-loop
 returns c =
     let l = c .before .before .before .before .before .before .loop in
-    let digits = c .before .before .before .before .before .before .before .before .args .digits .now in
+    let digits = c .before .before .before .before .before .before .before .before .before .args .digits .now in
     let e = sym (tested (c .before)) ∙ not-true (c .before .before .is-digit .result && c .before .is-digit2 .result) (c .if1 .taken) in
     let h : 2 * l .i + 1 < length digits = omega arith in
     (sym (not-hex digits (l .i) h e) ∙ l .inv .2, λ f. absurd (let n : _≡_ {A = ℕ} 0 1 = cc f in omega arith))
 
 two-digits : (c : tie.Else1 Inv-loop μ-loop) →
     let l = c .before .before .before .before .before .before .loop in
-    let digits = c .before .before .before .before .before .before .before .before .args .digits .now in
+    let digits = c .before .before .before .before .before .before .before .before .before .args .digits .now in
     (isDigit (getD digits (2 * l .i) 0) ≡ true) × (isDigit (getD digits (2 * l .i + 1) 0) ≡ true)
 two-digits c = both _ _ (sym (tested (c .before)) ∙ not-false (c .before .before .is-digit .result && c .before .is-digit2 .result) (c .if1 .left))
 
 pair-value-requires : tie.Need-pair-value-requires Inv-loop μ-loop
 pair-value-requires c κs = two-digits c
 
-element-write-bytes : tie.Need-element-write-bytes Inv-loop μ-loop
-element-write-bytes c = omega arith
+slice-write-bytes : tie.Need-slice-write-bytes Inv-loop μ-loop
+slice-write-bytes c = omega arith
 
 add-i : tie.Need-add-i Inv-loop μ-loop
 add-i c = omega arith
@@ -82,7 +85,7 @@ loop-less c = omega arith
 loop-again : tie.Need-loop-again Inv-loop μ-loop
 loop-again c =
     let l = c .before .before .before .before .before .before .before .loop in
-    let digits = c .before .before .before .before .before .before .before .before .before .args .digits .now in
+    let digits = c .before .before .before .before .before .before .before .before .before .before .args .digits .now in
     let h : 2 * l .i + 1 < length digits = omega arith in
     let k : l .i < length (l .bytes) = omega arith in
     let two = two-digits (c .before) in
@@ -90,11 +93,14 @@ loop-again c =
     sym (pair-hex digits (l .i) h ∙ simp (two .0, two .1)) in
     (omega arith, length-set (l .bytes) (l .i) _ ∙ l .inv .1, hex ∙ l .inv .2, pair-bytes digits (l .bytes) (l .i) _ h k (c .pair-value .ensures) ∙ l .inv .3)
 
+same-length-2 : tie.Need-same-length-2 Inv-loop μ-loop
+same-length-2 c = c .before .loop .inv .1
+
 returns-2 : tie.Need-returns-2 Inv-loop μ-loop
 unfolding all bytesOf
 returns-2 c =
     let l = c .before .loop in
-    let digits = c .before .before .before .args .digits .now in
+    let digits = c .before .before .before .before .args .digits .now in
     let i : l .i ≡ length digits / 2 = omega arith in
     let none : drop (2 * l .i) digits ≡ [] = drop-of-length-le digits {i = 2 * l .i} (omega arith) in
     (sym (ap (all isDigit) none) ∙ l .inv .2, λ f. rw (← i) (sym (append-nil (take (l .i) (l .bytes))) ∙ sym (ap (λ (t : List ℕ). take (l .i) (l .bytes) ++ bytesOf t) none) ∙ l .inv .3))
@@ -113,10 +119,12 @@ decode-spec =
     shared-slice-read-low
     is-digit-requires
     is-digit-requires-2
+    same-length
     returns
     pair-value-requires
-    element-write-bytes
+    slice-write-bytes
     add-i
     loop-less
     loop-again
+    same-length-2
     returns-2)

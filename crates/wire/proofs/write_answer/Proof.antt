@@ -1,18 +1,10 @@
 -- `wire::write_answer` meets its contract: eight bytes pasted over eight are what stands there then.
 -- Assumes nothing.
-use mathlib.Core.Path.{_∙_, _≡_}
-use mathlib.Core.List.{List, append-nil}
-use Prim.Native.Nat.{ℕ, _+_}
-use native.Mathlib.Omega.{arith}
-use lib.ListN.{length, drop-of-length-le}
-use lib.Seq.{take-all, paste}
+use mathlib.Core.Path.{_∙_}
+use Rattle.buffer.proofs.Pasting.{paste-all}
 use borrow.Author.Needs.{needs}
 use Rattle.wire.proofs.write_answer.Statement.{statement}
 use Rattle.wire.proofs.write_answer.Tie as tie
-
--- as many elements as there are, pasted from the start
-paste-all : (n : ℕ) (d s : List ℕ) → length d ≡ n → length s ≡ n → paste d 0 s n ≡ s
-paste-all n d s e f = rw (take-all n s (omega arith), drop-of-length-le d {i = 0 + n} (omega arith)) (append-nil s)
 
 answer-bytes-requires : tie.Need-answer-bytes-requires
 answer-bytes-requires c κs = search needs

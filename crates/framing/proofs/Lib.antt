@@ -1,0 +1,3 @@
+pub mod Framed
+pub mod Pasted
+pub mod Standing
