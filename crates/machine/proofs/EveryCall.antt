@@ -10,7 +10,7 @@ use Rattle.def.specs.declared.{EvcPm.EvcPm, EvcRefP.EvcRefP, EvcPoc.EvcPoc, Put
 use Rattle.def.specs.declared.Answer.{Answer}
 use Rattle.def.specs.declared.Answer.the-variants.{Done, Picture, NotYet, NoMore, Counts, Refused}
 use Rattle.def.specs.declared.Refusal.{Refusal}
-use Rattle.def.specs.declared.Refusal.the-variants.{StateNotWhole, BadPlan}
+use Rattle.def.specs.declared.Refusal.the-variants.{StateNotWhole}
 use Rattle.def.specs.Refusals.{refusalNumber}
 use Rattle.def.proofs.Refusals.{refusals-in-use, numbers-differ}
 use Rattle.def.specs.State.{slots}
@@ -39,7 +39,8 @@ use Rattle.line.specs.declared.Line.the-variants.{Good, Bad}
 use Rattle.line.specs.Answers.{replyOf}
 use Rattle.machine.specs.declared.Machine.{Machine}
 use Rattle.machine.specs.Step.{putCallOf, refpCallOf, derivedReply, step, stepLine}
-use Rattle.machine.specs.Claims.{TurnedDown, CallUnchanged, LineUnchanged, CallSound, LineSound, NewSound, CallNotSeven, LineNotSeven, CallNotBadPlan, LineNotBadPlan}
+use Rattle.machine.specs.Claims.{TurnedDown, CallUnchanged, LineUnchanged, CallSound, LineSound, NewSound, CallNotSeven, LineNotSeven, OfNoLine, CallGivesNone, LineGivesNone}
+use Rattle.machine.specs.Claims.OfNoLine.{planners}
 
 -- ---- a call that is turned down
 
@@ -177,36 +178,37 @@ unfolding stepLine
 line-not-seven m (Good c) s e = call-not-seven m c s e
 line-not-seven m Bad s e = absurd (omega arith)
 
-pub call-not-bad-plan : CallNotBadPlan
-unfolding step
-call-not-bad-plan m (Init size refs) e = by (init-why (m .pm) size refs BadPlan .0 (refused-by BadPlan 1 _ e))
-  where
-    by : InitTurnedDown (m .pm) size refs BadPlan → ⊥
-    by = elim [ ]
-call-not-bad-plan m GetEmptyPic e = by (get-why (m .pm) BadPlan .0 (refused-by BadPlan 2 _ e))
-  where
-    by : GetTurnedDown (m .pm) BadPlan → ⊥
-    by = elim [ ]
-call-not-bad-plan m (PutPic flags poc tid gap) e =
-    by (put-why (m .pm) (m .refp) (putCallOf flags poc tid gap) BadPlan .0 (refused-by BadPlan 3 _ e))
-  where
-    by : PutTurnedDown (m .pm) (putCallOf flags poc tid gap) BadPlan → ⊥
-    by = elim [ ]
-call-not-bad-plan m OutPic e = by (out-why (m .pm) BadPlan .0 (refused-by BadPlan 4 _ e))
-  where
-    by : OutTurnedDown (m .pm) BadPlan → ⊥
-    by = elim [ ]
-call-not-bad-plan m (RefpInit slice poc layer intra limit) e =
-    by (lists-why (m .pm) (m .refp) (refpCallOf slice poc layer intra limit) BadPlan .0 (refused-by BadPlan 5 _ e))
-  where
-    by : ListsReason (m .pm) (refpCallOf slice poc layer intra limit) BadPlan → ⊥
-    by = elim [ ]
-call-not-bad-plan m (PocDerivation L t) e = by (derive-why L t (m .poc) BadPlan .0 (number-refused-by BadPlan _ e))
-  where
-    by : Refusing L t (m .poc) BadPlan → ⊥
-    by = elim [ ]
+-- what turns a call down is none of them
+init-none : {pm : EvcPm} {size refs : ℕ} {why : Refusal} → OfNoLine why → InitTurnedDown pm size refs why → ⊥
+init-none planners = elim [ ]
 
-pub line-not-bad-plan : LineNotBadPlan
+get-none : {pm : EvcPm} {why : Refusal} → OfNoLine why → GetTurnedDown pm why → ⊥
+get-none planners = elim [ ]
+
+put-none : {pm : EvcPm} {c : PutCall} {why : Refusal} → OfNoLine why → PutTurnedDown pm c why → ⊥
+put-none planners = elim [ ]
+
+out-none : {pm : EvcPm} {why : Refusal} → OfNoLine why → OutTurnedDown pm why → ⊥
+out-none planners = elim [ ]
+
+lists-none : {pm : EvcPm} {c : RefpCall} {why : Refusal} → OfNoLine why → ListsReason pm c why → ⊥
+lists-none planners = elim [ ]
+
+derive-none : {L t : ℕ} {r : EvcPoc} {why : Refusal} → OfNoLine why → Refusing L t r why → ⊥
+derive-none planners = elim [ ]
+
+pub call-gives-none : CallGivesNone
+unfolding step
+call-gives-none m (Init size refs) why o e = init-none o (init-why (m .pm) size refs why .0 (refused-by why 1 _ e))
+call-gives-none m GetEmptyPic why o e = get-none o (get-why (m .pm) why .0 (refused-by why 2 _ e))
+call-gives-none m (PutPic flags poc tid gap) why o e =
+    put-none o (put-why (m .pm) (m .refp) (putCallOf flags poc tid gap) why .0 (refused-by why 3 _ e))
+call-gives-none m OutPic why o e = out-none o (out-why (m .pm) why .0 (refused-by why 4 _ e))
+call-gives-none m (RefpInit slice poc layer intra limit) why o e =
+    lists-none o (lists-why (m .pm) (m .refp) (refpCallOf slice poc layer intra limit) why .0 (refused-by why 5 _ e))
+call-gives-none m (PocDerivation L t) why o e = derive-none o (derive-why L t (m .poc) why .0 (number-refused-by why _ e))
+
+pub line-gives-none : LineGivesNone
 unfolding stepLine
-line-not-bad-plan m (Good c) e = call-not-bad-plan m c e
-line-not-bad-plan m Bad e = absurd (omega arith)
+line-gives-none m (Good c) why o e = call-gives-none m c why o e
+line-gives-none m Bad _ planners e = absurd (omega arith)

@@ -1,6 +1,6 @@
 -- What holds of every call and every line: one that is turned down leaves state, lists and record as they were; a whole state stays whole;
--- so refusal 7 never follows in a run from the new machine; 19 is the planner's, which has no call line. The proofs stand in
--- proofs/EveryCall.antt.
+-- so refusal 7 never follows in a run from the new machine; and no line gives the refusals of functions that no line calls. The proofs stand
+-- in proofs/EveryCall.antt.
 -- Assumes nothing.
 use mathlib.Core.Path.{_≡_}
 use mathlib.Core.Bool.{true}
@@ -45,9 +45,13 @@ CallNotSeven = (m : Machine) (c : Call) → Sound m → step m c .reply .status 
 abbrev pub LineNotSeven : Type 0
 LineNotSeven = (m : Machine) (l : Line) → Sound m → stepLine m l .reply .status ≡ 7 → ⊥
 
--- The planner is no call of a line, so on any machine none is answered with its 19.
-abbrev pub CallNotBadPlan : Type 0
-CallNotBadPlan = (m : Machine) (c : Call) → step m c .reply .status ≡ refusalNumber Refusal.BadPlan → ⊥
+-- Refusals of what is no call of a line: the planner's 19.
+pub data OfNoLine : Refusal → Type 0 where
+  planners : OfNoLine Refusal.BadPlan
 
-abbrev pub LineNotBadPlan : Type 0
-LineNotBadPlan = (m : Machine) (l : Line) → stepLine m l .reply .status ≡ refusalNumber Refusal.BadPlan → ⊥
+-- On any machine no call and no line is answered with one of them.
+abbrev pub CallGivesNone : Type 0
+CallGivesNone = (m : Machine) (c : Call) (why : Refusal) → OfNoLine why → step m c .reply .status ≡ refusalNumber why → ⊥
+
+abbrev pub LineGivesNone : Type 0
+LineGivesNone = (m : Machine) (l : Line) (why : Refusal) → OfNoLine why → stepLine m l .reply .status ≡ refusalNumber why → ⊥
