@@ -3,6 +3,7 @@
  *   1. The running machine: a struct of 6,400 bytes on which every call works in place. Use this to keep pictures.
  *   2. The image: a machine as 6,407 bytes, big-endian, the form for exchange and comparison.
  *   3. The depth tables and the group planner.
+ *   4. Answer lines read and call lines written.
  *
  * The library allocates nothing, calls nothing, keeps no pointer and has no state of its own. No pointer may be null, and
  * what a call writes may overlap nothing else that it is given. Two threads may not use one machine at once. */
@@ -16,7 +17,7 @@
 extern "C" {
 #endif
 
-/* What a call comes to. Under a refusal, 1 to 19 but 10 and 12, which are withdrawn and not used again, nothing has changed. */
+/* What a call comes to. Under a refusal, 1 to 20 but 10 and 12, which are withdrawn and not used again, nothing has changed. */
 enum picman_status {
     PICMAN_DONE = 0,
     PICMAN_SIZE_TOO_BIG = 1,
@@ -36,8 +37,9 @@ enum picman_status {
     PICMAN_BAD_LENGTH = 17,
     PICMAN_BAD = 18,      /* a size, a flag byte or a call that does not fit */
     PICMAN_BAD_PLAN = 19, /* the planner alone */
+    PICMAN_NO_ROOM = 20,  /* the writer of call lines alone */
     PICMAN_NOT_YET = 0x40, /* out: a picture is wanted and none is due */
-    PICMAN_NO_MORE = 0x41  /* out: no picture is wanted */
+    PICMAN_NO_MORE = 0x41  /* out: no picture is wanted; reading: no line is left */
 };
 
 #define PICMAN_SLOTS 27
@@ -49,6 +51,8 @@ enum picman_status {
 #define PICMAN_ENTRY 90
 #define PICMAN_RECORD 12
 #define PICMAN_PLAN 7
+#define PICMAN_READ 15
+#define PICMAN_LONGEST_LINE 27
 
 /* ---- 1. The running machine ------------------------------------------------------------------------------------------ */
 
@@ -249,6 +253,22 @@ uint8_t picman_slice_depth_p(uint64_t length, uint64_t position);
  * hierarchy is neither 0 nor 1. A refusal writes nothing. */
 uint8_t picman_plan(uint64_t count, uint64_t length, uint64_t interval, uint8_t inter, uint8_t hierarchy,
                     uint8_t *record, size_t record_len, uint8_t *plan, size_t plan_len);
+
+/* ---- 4. Answer lines read and call lines written ---------------------------------------------------------------------- */
+
+/* What stands at a place, counted from 0, of a buffer of answer lines. Begin at 0 and go on at the place that was written:
+ * that gives every line, in order. 0 where the line that begins there is an answer, any eight bytes that sum to zero in
+ * lower-case hex; PICMAN_BAD where it is none; PICMAN_NO_MORE at the end or past it. record, of PICMAN_READ bytes, gets the
+ * seven field bytes (call, status, buffer number, value 4), zero where there is no answer, and then the next place, behind
+ * the next newline or at the end, 8 bytes big-endian. A newline ends a line and nothing else does; the last line may lack
+ * it. Another record_len gives PICMAN_BAD, and nothing is written. */
+uint8_t picman_read_answer(const uint8_t *lines, size_t len, uint64_t at, uint8_t *record, size_t record_len);
+
+/* Writes the line of a call, newline last, at the front of target, and no byte behind it: 0. fields are the call byte and
+ * its fields, without a check byte. The line has 2 * (fields_len + 1) + 1 bytes, PICMAN_LONGEST_LINE at most. PICMAN_BAD
+ * where fields are no call, a put with flags over 15 too; then PICMAN_NO_ROOM where target is shorter than the line. Neither
+ * writes anything. */
+uint8_t picman_write_call(const uint8_t *fields, size_t fields_len, uint8_t *target, size_t target_len);
 
 #ifdef __cplusplus
 }

@@ -1,13 +1,16 @@
 //! The proved picture manager: safe types and functions over `include/picman.h`.
 //!
 //! [`Machine`] is the running machine, on which calls work in place. [`image`] holds the functions on a machine as 6,407
-//! bytes, the form for exchange and comparison. Beside them stand the two depth tables and the group planner, [`plan`].
+//! bytes, the form for exchange and comparison. Beside them stand the two depth tables, the group planner, [`plan`],
+//! [`answers`], which reads answer lines, and [`write_call`], which writes call lines.
 
 pub mod image;
+mod lines;
 mod machine;
 mod plan;
 mod tables;
 
+pub use lines::{answers, answers_from, write_call, Answers, Read, LONGEST_LINE, NO_ROOM};
 pub use machine::{Answer, Entry, Machine, IDR, NO_PICTURE, REFERENCE, SLICE_B, SLICE_I, SLICE_P, WANTED};
 pub use plan::{plan, PlanCall, PLAN, RECORD};
 pub use tables::{slice_depth, slice_depth_p};

@@ -21,6 +21,7 @@ extern "C" {
         plan: *mut u8,
         pn: usize,
     ) -> u8;
+    fn picman_read_answer(lines: *const u8, n: usize, at: u64, record: *mut u8, rn: usize) -> u8;
     fn picman_machine_new(k: *mut u64, kn: usize, w: *mut u32, wn: usize, r: *mut u32, rn: usize) -> u8;
     fn picman_machine_init(
         k: *mut u64,
@@ -258,5 +259,16 @@ fn plans() {
         let status = unsafe { picman_plan(8, 8, 0, 3, 1, record.as_mut_ptr(), rn, plan.as_mut_ptr(), pn) };
         assert_eq!(status, BAD, "{rn} {pn}");
         assert!(record.iter().chain(&plan).all(|byte| *byte == BEFORE), "{rn} {pn}");
+    }
+}
+
+#[test]
+fn records_of_a_reading() {
+    let line = b"0100ff0000000000\n";
+    for len in (0..32).filter(|len| *len != 15) {
+        let mut record = [0xa5; 32];
+        let status = unsafe { picman_read_answer(line.as_ptr(), line.len(), 0, record.as_mut_ptr(), len) };
+        assert_eq!(status, BAD, "{len}");
+        assert_eq!(record, [0xa5; 32], "{len}");
     }
 }

@@ -45,6 +45,7 @@ refusals-in-use Refusal.BadRecord = (omega arith, omega arith, λ e. omega arith
 refusals-in-use Refusal.BadLength = (omega arith, omega arith, λ e. omega arith, λ e. omega arith)
 refusals-in-use Refusal.BadLine = (omega arith, omega arith, λ e. omega arith, λ e. omega arith)
 refusals-in-use Refusal.BadPlan = (omega arith, omega arith, λ e. omega arith, λ e. omega arith)
+refusals-in-use Refusal.NoRoom = (omega arith, omega arith, λ e. omega arith, λ e. omega arith)
 
 -- the refusal that a number stands for
 abbrev refusalOf : ℕ → Refusal
@@ -65,7 +66,8 @@ refusalOf n =
     (cond (eqb n 16) Refusal.BadRecord
     (cond (eqb n 17) Refusal.BadLength
     (cond (eqb n 18) Refusal.BadLine
-    Refusal.BadPlan)))))))))))))))
+    (cond (eqb n 19) Refusal.BadPlan
+    Refusal.NoRoom))))))))))))))))
 
 told-again : (why : Refusal) → refusalOf (refusalNumber why) ≡ why
 told-again Refusal.SizeTooBig = refl
@@ -85,6 +87,7 @@ told-again Refusal.BadRecord = refl
 told-again Refusal.BadLength = refl
 told-again Refusal.BadLine = refl
 told-again Refusal.BadPlan = refl
+told-again Refusal.NoRoom = refl
 
 pub numbers-differ : NumbersDiffer
 numbers-differ a b e = sym (told-again a) ∙ (ap refusalOf e ∙ told-again b)

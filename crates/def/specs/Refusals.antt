@@ -6,7 +6,7 @@ use mathlib.Core.Bool.{Bool, not, _&&_}
 use mathlib.Core.List.{List, [], _∷_}
 use lib.Dec.{leb, eqb}
 use Rattle.def.specs.declared.Refusal.{Refusal}
-use Rattle.def.specs.declared.Refusal.the-variants.{SizeTooBig, StoreFull, PictureLeased, NoLease, SlotTaken, NumberTooHigh, StateNotWhole, TooManyReferences, NoReferences, ForwardListEmpty, SameNumber, NoSuchPlace, BadLayer, BadRecord, BadLength, BadLine, BadPlan}
+use Rattle.def.specs.declared.Refusal.the-variants.{SizeTooBig, StoreFull, PictureLeased, NoLease, SlotTaken, NumberTooHigh, StateNotWhole, TooManyReferences, NoReferences, ForwardListEmpty, SameNumber, NoSuchPlace, BadLayer, BadRecord, BadLength, BadLine, BadPlan, NoRoom}
 
 abbrev pub refusalNumber : Refusal → ℕ
 refusalNumber SizeTooBig = 1
@@ -26,10 +26,11 @@ refusalNumber BadRecord = 16
 refusalNumber BadLength = 17
 refusalNumber BadLine = 18
 refusalNumber BadPlan = 19
+refusalNumber NoRoom = 20
 
 -- The highest number of a refusal.
 abbrev pub highestRefusal : ℕ
-highestRefusal = 19
+highestRefusal = 20
 
 -- The numbers in use, told by a test and as a fact: 1 to the highest, less 10 and 12, which are withdrawn and get no second meaning.
 abbrev pub numberInUse : ℕ → Bool
@@ -68,3 +69,4 @@ rustWords BadRecord = added ∷ []
 rustWords BadLength = panics ∷ returns-filler ∷ added ∷ []
 rustWords BadLine = added ∷ []
 rustWords BadPlan = panics ∷ added ∷ []
+rustWords NoRoom = added ∷ []

@@ -84,9 +84,10 @@ pub enum Refusal {
     BadLength,
     BadLine,
     BadPlan,
+    NoRoom,
 }
 
-const HIGHEST_REFUSAL: u8 = 19;
+const HIGHEST_REFUSAL: u8 = 20;
 // Numbers below it that are withdrawn: an old reference was met, and the backward list is empty.
 const OLD_REFERENCE: u8 = 10;
 
@@ -120,6 +121,7 @@ pub fn refusal_number(r: Refusal) -> u8
         Refusal::BadLength => 17,
         Refusal::BadLine => 18,
         Refusal::BadPlan => 19,
+        Refusal::NoRoom => 20,
     }
 }
 

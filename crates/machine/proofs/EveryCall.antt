@@ -40,7 +40,7 @@ use Rattle.line.specs.Answers.{replyOf}
 use Rattle.machine.specs.declared.Machine.{Machine}
 use Rattle.machine.specs.Step.{putCallOf, refpCallOf, derivedReply, step, stepLine}
 use Rattle.machine.specs.Claims.{TurnedDown, CallUnchanged, LineUnchanged, CallSound, LineSound, NewSound, CallNotSeven, LineNotSeven, OfNoLine, CallGivesNone, LineGivesNone}
-use Rattle.machine.specs.Claims.OfNoLine.{planners}
+use Rattle.machine.specs.Claims.OfNoLine.{planners, writers}
 
 -- ---- a call that is turned down
 
@@ -181,21 +181,27 @@ line-not-seven m Bad s e = absurd (omega arith)
 -- what turns a call down is none of them
 init-none : {pm : EvcPm} {size refs : ℕ} {why : Refusal} → OfNoLine why → InitTurnedDown pm size refs why → ⊥
 init-none planners = elim [ ]
+init-none writers = elim [ ]
 
 get-none : {pm : EvcPm} {why : Refusal} → OfNoLine why → GetTurnedDown pm why → ⊥
 get-none planners = elim [ ]
+get-none writers = elim [ ]
 
 put-none : {pm : EvcPm} {c : PutCall} {why : Refusal} → OfNoLine why → PutTurnedDown pm c why → ⊥
 put-none planners = elim [ ]
+put-none writers = elim [ ]
 
 out-none : {pm : EvcPm} {why : Refusal} → OfNoLine why → OutTurnedDown pm why → ⊥
 out-none planners = elim [ ]
+out-none writers = elim [ ]
 
 lists-none : {pm : EvcPm} {c : RefpCall} {why : Refusal} → OfNoLine why → ListsReason pm c why → ⊥
 lists-none planners = elim [ ]
+lists-none writers = elim [ ]
 
 derive-none : {L t : ℕ} {r : EvcPoc} {why : Refusal} → OfNoLine why → Refusing L t r why → ⊥
 derive-none planners = elim [ ]
+derive-none writers = elim [ ]
 
 pub call-gives-none : CallGivesNone
 unfolding step
@@ -212,3 +218,4 @@ pub line-gives-none : LineGivesNone
 unfolding stepLine
 line-gives-none m (Good c) why o e = call-gives-none m c why o e
 line-gives-none m Bad _ planners e = absurd (omega arith)
+line-gives-none m Bad _ writers e = absurd (omega arith)

@@ -45,9 +45,10 @@ CallNotSeven = (m : Machine) (c : Call) → Sound m → step m c .reply .status 
 abbrev pub LineNotSeven : Type 0
 LineNotSeven = (m : Machine) (l : Line) → Sound m → stepLine m l .reply .status ≡ 7 → ⊥
 
--- Refusals of what is no call of a line: the planner's 19.
+-- Refusals of what is no call of a line: the planner's 19, and 20 of the writer of call lines.
 pub data OfNoLine : Refusal → Type 0 where
   planners : OfNoLine Refusal.BadPlan
+  writers : OfNoLine Refusal.NoRoom
 
 -- On any machine no call and no line is answered with one of them.
 abbrev pub CallGivesNone : Type 0

@@ -1,0 +1,2 @@
+pub mod LentLines
+pub mod Claims
