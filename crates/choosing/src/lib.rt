@@ -26,7 +26,7 @@ ghost use Rattle.passes.specs.InNumbers.{askIn, PassesRoom};
 ghost use Rattle.choosing.specs.Choice.{chosen, isB, forwardWalk, choice};
 ghost use Rattle.choosing.specs.Decided.{Decided};
 
-fn is_b(slice_type: SliceType) -> bool
+pub fn is_b(slice_type: SliceType) -> bool
     ensures { λ r. ⌜ r ≡ isB «slice_type» ⌝ }
 {
     match slice_type {
@@ -67,7 +67,12 @@ fn backward_list(
 }
 
 // Decides both lists of a slice other than I on the first `num` keys, which stand in order.
-fn choose(pic_ref: &[u64; SLOTS], num: usize, list: &mut [u64; PLACES], call: RefpCall) -> Answer
+pub fn choose(
+    pic_ref: &[u64; SLOTS],
+    num: usize,
+    list: &mut [u64; PLACES],
+    call: RefpCall,
+) -> Answer
     requires { ⌜ (length (now «pic_ref») ≡ slots) × (length (now list) ≡ listPlaces + listPlaces) × (num ≤ slots) ⌝ }
     ensures { λ r. ⌜ Decided r (now (list .exit)) (choice call (keysIn num (now («pic_ref» .entry)))) ⌝ }
 {

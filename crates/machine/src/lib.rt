@@ -8,7 +8,7 @@ use keys::Rest;
 use line::Reply;
 
 pub mod calls;
-mod fields;
+pub mod fields;
 pub mod fresh;
 
 // All that the program keeps from call to call.
