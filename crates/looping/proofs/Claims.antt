@@ -3,15 +3,11 @@
 use Prim.Native.Nat.{ℕ}
 use native.Mathlib.Omega.{arith}
 use mathlib.Core.Path.{_≡_, refl, sym, ap, _∙_}
-use mathlib.Core.Bool.{true}
-use mathlib.Core.Bool as Bool
 use mathlib.Core.List.{List, [], _∷_, _++_, append-assoc, append-nil}
-use borrow.Author.Tests.{le-ltb}
-use lib.IntN.{ℤ, pos, negsuc}
-use lib.Signed.{ltZ}
 use lib.ListN.{length, take}
 use lib.Seq.{take-take}
 use Rattle.io.specs.Counts.{clamped}
+use Rattle.reading.proofs.Signs.{nothing-brought, nothing-failed}
 use Rattle.run.specs.declared.Session.{Session}
 use Rattle.run.specs.Partial.{kept}
 use Rattle.run.specs.Run.{Runner, Fed, after, program, feed, finish, start, joined}
@@ -29,13 +25,6 @@ use Rattle.looping.specs.Claims.{TurnsRun, ServeBegins}
 pub record Agrees (r : Runner) (given : List ℕ) (f : Fed) : Type 0 where
   pub alike : Alike r (f .runner)
   pub wrote : given ≡ f .written
-
-nothing-brought : (z : ℤ) (n : ℕ) → z ≡ pos 0 → clamped z n ≡ 0
-nothing-brought z n e = rw e (omega arith)
-
-nothing-failed : (z : ℤ) (n : ℕ) → ltZ z (pos 0) ≡ true → clamped z n ≡ 0
-nothing-failed (pos k) n e = absurd (Bool.false≢true (sym (le-ltb k 0 (omega arith)) ∙ e))
-nothing-failed (negsuc k) n e = refl
 
 -- ---- one turn, from any run that agrees with the session
 

@@ -1,17 +1,13 @@
 -- A turn: what it hands on, and that the session stays sound.
 -- Assumes nothing.
-use Prim.Native.Nat.{ℕ, zero, suc, _≤_}
+use Prim.Native.Nat.{ℕ, _≤_}
 use mathlib.Core.Path.{_≡_, refl, ap, _∙_}
-use mathlib.Core.Bool.{true, false}
-use mathlib.Core.Bool as Bool
+use mathlib.Core.Bool.{true}
 use mathlib.Core.List.{List}
 use native.Mathlib.Omega.{arith}
-use borrow.Author.Tests.{lt-ltb}
-use lib.IntN.{ℤ, pos, negsuc}
+use lib.IntN.{ℤ, pos}
 use lib.Signed.{ltZ}
 use lib.ListN.{length, take, drop, length-append}
-use mir.Syntax.{w64}
-use mir.Val.{ofZ}
 use Rattle.io.specs.Counts.{clamped}
 use Rattle.run.specs.declared.{Session.Session, Ran.Ran}
 use Rattle.run.specs.Run.{feed}
@@ -57,16 +53,6 @@ still-room out t keys′ rows′ piece′ out′ room turned p o =
       answers-fit = omega arith;
       answer-fits = omega arith;
     }
-
--- the sign of what a read answered, by the two tests of the code
-pub is-zero : (z : ℤ) → ltZ z (pos 0) ≡ false → ofZ w64 z ≡ 0 → z ≡ pos 0
-is-zero (pos n) e f = ap pos f
-is-zero (negsuc n) e f = absurd (Bool.true≢false e)
-
-pub is-positive : (z : ℤ) → ltZ z (pos 0) ≡ false → (ofZ w64 z ≡ 0 → ⊥) → ltZ (pos 0) z ≡ true
-is-positive (pos zero) e f = absurd (f refl)
-is-positive (pos (suc n)) e f = lt-ltb 0 (suc n) (omega arith)
-is-positive (negsuc n) e f = absurd (Bool.true≢false e)
 
 pub idle-turn : (keys rows : List ℕ) (s : Session) (out : List ℕ) (t : Handed) (h : Heard) (w : Went) → t ≡ record { session = s; heard = h; written = 0; went = w } → Patient h
     → Idle keys rows s out t keys rows out

@@ -2,7 +2,8 @@
 use mathlib.Core.Path.{_≡_, refl}
 use mir.Syntax.{w64}
 use mir.Val.{toZ, ofZ}
-use Rattle.turning.proofs.Turning.{ran-within, is-zero, is-positive, idle-turn, ranged}
+use Rattle.reading.proofs.Signs.{is-zero, is-positive}
+use Rattle.turning.proofs.Turning.{ran-within, idle-turn, ranged}
 use borrow.Author.Needs.{needs}
 use Rattle.turning.proofs.turn.Statement.{statement}
 use Rattle.turning.proofs.turn.Tie as tie

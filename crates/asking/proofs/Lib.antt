@@ -1,0 +1,2 @@
+pub mod LineWritten
+pub mod ExpectedTable

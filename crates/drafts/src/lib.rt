@@ -1,0 +1,200 @@
+// A command of which some words were read, and what one more word does to it (module `parts`).
+pub mod parts;
+
+ghost use mathlib.Core.Path.{_≡_};
+ghost use Prim.Native.Nat.{_<_};
+ghost use Rattle.drafts.specs.Drafts.{begun, started, failed, withFirst, withNumber, withLayer, withSpan, withLimit, withGiven, marked, isComplete};
+
+// Which word is wanted next. A draft that a word did not fit has FAILED more.
+pub const COMMAND: u8 = 0;
+
+pub const FIRST: u8 = 1;
+
+pub const SECOND: u8 = 2;
+
+pub const SLICE: u8 = 3;
+
+pub const NUMBER: u8 = 4;
+
+pub const PICTURE: u8 = 5;
+
+pub const PUT_PARTS: u8 = 6;
+
+pub const LIST_PARTS: u8 = 7;
+
+pub const LAYER: u8 = 8;
+
+pub const GAP: u8 = 9;
+
+pub const INTRA: u8 = 10;
+
+pub const LIMIT: u8 = 11;
+
+pub const END: u8 = 12;
+
+const FAILED: u8 = 16;
+
+// The usual list limit.
+const USUAL_LIMIT: u8 = 21;
+
+// The call's byte, what is wanted next, which parts were given (the flags of a put in the low half, then 16 layer, 32 gap or last intra,
+// 64 limit), and the fields.
+pub struct Draft {
+    pub call: u8,
+    pub want: u8,
+    pub given: u8,
+    pub first: u8,
+    pub number: u32,
+    pub layer: u8,
+    pub span: u32,
+    pub limit: u8,
+}
+
+// A command with the usual value of each part.
+pub fn started(call: u8, want: u8) -> Draft
+    ensures { λ r. ⌜ r ≡ started call want ⌝ }
+{
+    Draft {
+        call,
+        want,
+        given: 0,
+        first: 0,
+        number: 0,
+        layer: 0,
+        span: 0,
+        limit: USUAL_LIMIT,
+    }
+}
+
+// No word yet.
+pub fn begun() -> Draft
+    ensures { λ r. ⌜ r ≡ begun ⌝ }
+{
+    started(0, COMMAND)
+}
+
+// A word came that does not fit; the first one counts.
+pub fn failed(d: Draft) -> Draft
+    ensures { λ r. ⌜ r ≡ failed d ⌝ }
+{
+    if d.want < FAILED {
+        return Draft {
+            call: d.call,
+            want: d.want + FAILED,
+            given: d.given,
+            first: d.first,
+            number: d.number,
+            layer: d.layer,
+            span: d.span,
+            limit: d.limit,
+        };
+    }
+    d
+}
+
+pub fn with_first(d: Draft, n: u8, want: u8) -> Draft
+    ensures { λ r. ⌜ r ≡ withFirst d n want ⌝ }
+{
+    Draft {
+        call: d.call,
+        want,
+        given: d.given,
+        first: n,
+        number: d.number,
+        layer: d.layer,
+        span: d.span,
+        limit: d.limit,
+    }
+}
+
+pub fn with_number(d: Draft, n: u32, want: u8) -> Draft
+    ensures { λ r. ⌜ r ≡ withNumber d n want ⌝ }
+{
+    Draft {
+        call: d.call,
+        want,
+        given: d.given,
+        first: d.first,
+        number: n,
+        layer: d.layer,
+        span: d.span,
+        limit: d.limit,
+    }
+}
+
+pub fn with_layer(d: Draft, n: u8, want: u8) -> Draft
+    ensures { λ r. ⌜ r ≡ withLayer d n want ⌝ }
+{
+    Draft {
+        call: d.call,
+        want,
+        given: d.given,
+        first: d.first,
+        number: d.number,
+        layer: n,
+        span: d.span,
+        limit: d.limit,
+    }
+}
+
+pub fn with_span(d: Draft, n: u32, want: u8) -> Draft
+    ensures { λ r. ⌜ r ≡ withSpan d n want ⌝ }
+{
+    Draft {
+        call: d.call,
+        want,
+        given: d.given,
+        first: d.first,
+        number: d.number,
+        layer: d.layer,
+        span: n,
+        limit: d.limit,
+    }
+}
+
+pub fn with_limit(d: Draft, n: u8, want: u8) -> Draft
+    ensures { λ r. ⌜ r ≡ withLimit d n want ⌝ }
+{
+    Draft {
+        call: d.call,
+        want,
+        given: d.given,
+        first: d.first,
+        number: d.number,
+        layer: d.layer,
+        span: d.span,
+        limit: n,
+    }
+}
+
+fn with_given(d: Draft, given: u8, want: u8) -> Draft
+    ensures { λ r. ⌜ r ≡ withGiven d given want ⌝ }
+{
+    Draft {
+        call: d.call,
+        want,
+        given,
+        first: d.first,
+        number: d.number,
+        layer: d.layer,
+        span: d.span,
+        limit: d.limit,
+    }
+}
+
+// A part is given, unless it was.
+pub fn marked(d: Draft, part: u8, want: u8) -> Draft
+    requires { ⌜ 0 < part ⌝ }
+    ensures { λ r. ⌜ r ≡ marked d part want ⌝ }
+{
+    if d.given / part % 2 == 0 {
+        return with_given(d, std::num::wrapping_add_u8(d.given, part), want);
+    }
+    failed(d)
+}
+
+pub fn is_complete(want: u8) -> bool
+    ensures { λ r. ⌜ r ≡ isComplete want ⌝ }
+{
+    (want == PUT_PARTS) | ((want == LIST_PARTS) | (want == END))
+}

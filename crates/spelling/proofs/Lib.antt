@@ -1,0 +1,4 @@
+pub mod Digits
+pub mod Plain
+pub mod Claims
+pub mod Lengths
