@@ -1,4 +1,4 @@
-//! Calls and replies as bytes: the fields of document 01's "Program", check byte last.
+//! Calls and replies as bytes: the fields of the specification's call lines, check byte last.
 
 /// Refusal 18: the bytes are no call.
 pub const BAD_LINE: u8 = 18;

@@ -1,4 +1,4 @@
-//! Runs the original alone in a child process on calls where document 01 says that it asserts, panics or never
+//! Runs the original alone in a child process on calls where the specification says that it asserts, panics or never
 //! returns, and holds it to that.
 
 use crate::call::{Call, Outcome};
@@ -37,7 +37,7 @@ pub fn run(kept: &Kept) -> Result<usize, String> {
     Ok(kept.samples.len())
 }
 
-/// Document 01's last column, with the words of the original's own assertions.
+/// The specification's last column, with the words of the original's own assertions.
 fn fate_of(why: Why, sample: &Sample) -> Fate {
     let Why::Refused(refusal) = why else {
         return Fate::NeverReturns;

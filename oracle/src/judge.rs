@@ -20,7 +20,7 @@ pub struct Difference(pub String);
 
 pub type Verdict<T> = Result<T, Difference>;
 
-/// One machine: as our image, by document 01, and as a live original once one is needed; from the new state on also as
+/// One machine: as our image, by the specification, and as a live original once one is needed; from the new state on also as
 /// our running machine.
 pub struct Sides {
     pub image: Box<Image>,
@@ -180,9 +180,9 @@ impl Judge {
             Request::Call(call) => original.call(call),
             Request::Copy(cnt, lidx, entry) => original.copy(*cnt as usize, *lidx as usize, entry),
         }));
-        let by_rust = ran.map_err(|_| format!("the Rust panics, and document 01 says {outcome:?}"))?;
+        let by_rust = ran.map_err(|_| format!("the Rust panics, and the specification says {outcome:?}"))?;
         if by_rust != outcome {
-            return Err(format!("the Rust says {by_rust:?}, and document 01 {outcome:?}"));
+            return Err(format!("the Rust says {by_rust:?}, and the specification {outcome:?}"));
         }
         self.coverage.judged_by_rust += 1;
 
@@ -290,7 +290,7 @@ fn same_images(sides: &Sides, expected: &Image) -> Result<(), String> {
     }
     let papers = encoded(&sides.machine);
     if papers != *expected {
-        return Err(format!("document 01 (ours below) differs from the Rust in\n{}", fields(&papers, expected)));
+        return Err(format!("the specification (ours below) differs from the Rust in\n{}", fields(&papers, expected)));
     }
     Ok(())
 }

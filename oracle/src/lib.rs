@@ -2,7 +2,7 @@
 //!
 //! The modules `api`, `def`, `enc`, `picman` and `util` hold the original's own text under its own paths, cut
 //! out by build.rs; only `api::frame` and the context in `enc::gop` are ours. Around them: `original` drives that text on the
-//! image of a machine, `papers` is document 01 in plain Rust, `ours` is the static library, and `judge` compares them.
+//! image of a machine, `papers` is the specification in plain Rust, `ours` is the static library, and `judge` compares them.
 
 // Nothing here changes the text, so its warnings are not ours to mend.
 #[allow(warnings)]

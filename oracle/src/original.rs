@@ -137,7 +137,7 @@ impl Original {
         Ok(Answer::Picture { buf: frame.buffer, poc: picture.poc })
     }
 
-    /// Added by document 01: the smallest number that no slot holds.
+    /// Added by the specification: the smallest number that no slot holds.
     fn smallest_free_buffer(&self) -> u8 {
         let held = self.pm.pic.iter().flatten().fold(0u32, |held, picture| held | 1 << buffer_of(picture));
         held.trailing_ones() as u8
@@ -224,7 +224,7 @@ fn depth_in<const N: usize>(table: &[[u8; N]], length: u64, position: u64) -> Op
     row.get(usize::try_from(position).ok()?).copied()
 }
 
-/// The numbers that document 01 gives to the errors that the original returns.
+/// The numbers that the specification gives to the errors that the original returns.
 fn refusal(error: EvcError) -> u8 {
     match error {
         EvcError::EVC_ERR_UNSUPPORTED => 1,

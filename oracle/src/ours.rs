@@ -86,12 +86,12 @@ mod library {
     }
 }
 
-/// Document 01 behind the same functions: it tries the comparison itself while there is no library.
+/// The specification behind the same functions: it tries the comparison itself while there is no library.
 pub struct StandIn;
 
 impl Ours for StandIn {
     fn name(&self) -> &'static str {
-        "the stand-in (document 01 in plain Rust; NOT our library)"
+        "the stand-in (the specification in plain Rust; NOT our library)"
     }
 
     fn new_machine(&self, image: &mut [u8]) -> u8 {

@@ -1,4 +1,4 @@
-//! Calls on which document 01 says that the Rust asserts, panics or never returns: an even choice of those met,
+//! Calls on which the specification says that the Rust asserts, panics or never returns: an even choice of those met,
 //! kept to be run in child processes at the end. Calls that meet an old reference are among them, accepted ones too.
 
 use crate::call::Call;
@@ -18,10 +18,10 @@ pub enum Request {
 }
 
 impl Request {
-    /// Whether the original can be asked this, and the fate that document 01 tells of is its own.
+    /// Whether the original can be asked this, and the fate that the specification tells of is its own.
     fn in_rust(&self, machine: &Machine) -> bool {
         match self {
-            // The limits on L and on the record are document 01's own.
+            // The limits on L and on the record are the specification's own.
             Request::Call(Call::Derive { log2_length, .. }) => {
                 *log2_length <= 15 && !poc::bad_record(&machine.record)
             }

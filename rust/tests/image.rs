@@ -1,4 +1,4 @@
-//! The functions on an image: document 01's example, refusals, flag bytes that don't fit; and both depth tables.
+//! The functions on an image: the specification's example, refusals, flag bytes that don't fit; and both depth tables.
 
 use picman::image;
 use picman::{ANSWER, BAD, ENTRY, IMAGE};

@@ -1,4 +1,4 @@
-//! The running machine from Rust: document 01's example, refusals, states that are not whole, and the way to an image.
+//! The running machine from Rust: the specification's example, refusals, states that are not whole, and the way to an image.
 
 use picman::{
     image, Answer, Entry, Machine, ANSWER, BAD, IDR, IMAGE, NOT_YET, NO_MORE, NO_PICTURE, REFERENCE, SLICE_B,

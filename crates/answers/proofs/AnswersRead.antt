@@ -9,8 +9,8 @@ use mathlib.Core.Option.{none, some}
 use lib.Dec.{eqb}
 use lib.ListN.{length}
 use borrow.Author.Tests.{ne-eqb, eq-eqb, eqb-true}
-use Rattle.seq.specs.Lists.{all}
-use Rattle.seq.specs.All.{and-left, and-right}
+use Rattle.seq.specs.Lists.{allOf}
+use Rattle.seq.proofs.Tests.{and-left, and-right}
 use Rattle.hex.specs.Hex.{isDigit, isHex, bytesOf}
 use Rattle.hex.specs.Frame.{byteAt, wordAt, bodyOf, isChecked, isFramed, fromLine}
 use Rattle.hex.proofs.HexLaws.{bytes-length, body-length}
@@ -25,7 +25,7 @@ module _ (cs : List ℕ) where
       by : (b : Bool) → isFramed cs ≡ b → fromLine answerKind cs ≡ none
       by false e = unframed answerKind cs e
       by true e =
-          let even = eqb-true (length cs % 2) 0 (and-right (all isDigit cs) (eqb (length cs % 2) 0) (and-left (isHex cs) (isChecked (bytesOf cs)) e)) in
+          let even = eqb-true (length cs % 2) 0 (and-right (allOf isDigit cs) (eqb (length cs % 2) 0) (and-left (isHex cs) (isChecked (bytesOf cs)) e)) in
           let other : length (bodyOf (bytesOf cs)) ≡ 7 → ⊥ = λ f. h (omega (arith, bytes-length cs, body-length (bytesOf cs))) in
           of-body answerKind cs e ∙ rw (ne-eqb (length (bodyOf (bytesOf cs))) 7 other)
 

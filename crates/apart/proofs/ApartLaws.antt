@@ -4,7 +4,7 @@
 use mathlib.Core.Path.{_≡_, refl, sym, ap, ap₂, _∙_}
 use mathlib.Core.Bool.{Bool, true, false, cond, _&&_}
 use mathlib.Core.Bool as Bool
-use mathlib.Core.List.{List, [], _∷_, map, List·Memᴰ, List·Memᴰ·head, List·Memᴰ·tail, List·Memᴰ·not-nil, List·Memᴰ·cases-cons, Memᴰ·cast}
+use mathlib.Core.List.{List, [], _∷_, map, List·Memᴰ, List·Memᴰ·head, List·Memᴰ·tail, List·Memᴰ·not-nil, List·Memᴰ·cases-cons, Memᴰ·cast, Memᴰ·map}
 use mathlib.Core.Logic.{_⊎_, inl, inr}
 use Prim.Native.Nat.{ℕ, _*_, _<_}
 use native.Mathlib.Omega.{arith}
@@ -12,16 +12,17 @@ use lib.ListN.{length, replicate}
 use lib.Seq.{paste, length-paste}
 use borrow.Author.Tests.{ltb-true}
 use Rattle.seq.specs.Lists.{select, Distinct}
-use Rattle.seq.specs.All.{and-left, and-right}
-use Rattle.seq.specs.Members.{mem-map, select-mem, holds-tail}
-use Rattle.def.specs.State.{slots, listPlaces, emptySlot, held, isPresent, bufferOf}
+use Rattle.seq.proofs.Tests.{and-left, and-right}
+use Rattle.seq.proofs.Members.{select-mem, holds-tail}
+use Rattle.def.specs.State.{slots, listPlaces, emptySlot, occupiedBy, isPresent, bufferOf}
 use Rattle.def.specs.declared.{Slot.Slot}
 use Rattle.keys.specs.Keys.{keyMade, rowLength, rowsLength, rowAt, slotAt, listsIn}
 use Rattle.keys.proofs.RowLaws.{row-other, row-whole}
 use Rattle.keys.proofs.KeyLaws.{slot-made}
 use Rattle.keys.proofs.ListRows.{lists-stay}
 use Rattle.whole.specs.Whole.{zeroIfEmpty, pocFits, buffersOf}
-use Rattle.whole.specs.Laws.{Zero, zero-from}
+use Rattle.whole.specs.Rules.{Zero}
+use Rattle.whole.proofs.Laws.{zero-from}
 use Rattle.apart.specs.Apart.{slotFits, bufferFits, keyFor, rowsWith, rowsOf, Shaped}
 
 -- ---- one slot
@@ -108,7 +109,7 @@ rows-lists (s ∷ ss) rows l h =
     rows-lists ss (rowsWith rows s) (with-long s rows l (h s (List·Memᴰ·head refl))) (holds-tail h) ∙ with-lists s rows l (h s (List·Memᴰ·head refl))
 
 first-held : (s : Slot) (ss : List Slot) → s .present ≡ true → List·Memᴰ (s .buf) (buffersOf (s ∷ ss))
-first-held s ss p = mem-map bufferOf (select-mem isPresent (s ∷ ss) (List·Memᴰ·head refl) p)
+first-held s ss p = Memᴰ·map bufferOf (select-mem isPresent (s ∷ ss) (List·Memᴰ·head refl) p)
 
 later-held : (s : Slot) (ss : List Slot) {c : ℕ} → List·Memᴰ c (buffersOf ss) → List·Memᴰ c (buffersOf (s ∷ ss))
 unfolding select
@@ -162,7 +163,7 @@ module _ (s : Slot) (fits : slotFits s ≡ true) (shaped : Shaped s) where
 
   held-read : (rows : List ℕ) → s .present ≡ true
       → slotAt rows (keyFor s)
-      ≡ held (record { poc = s .pic .poc; «is_ref» = s .pic .«is_ref»; «need_for_out» = s .pic .«need_for_out»; «temporal_id» = s .pic .«temporal_id»; «list_poc» = rowAt rows (s .buf) }) (s .buf)
+      ≡ occupiedBy (record { poc = s .pic .poc; «is_ref» = s .pic .«is_ref»; «need_for_out» = s .pic .«need_for_out»; «temporal_id» = s .pic .«temporal_id»; «list_poc» = rowAt rows (s .buf) }) (s .buf)
   held-read rows p =
       let b = buffer-below s fits p in
       ap (slotAt rows) (key-held s fits p)

@@ -2,17 +2,16 @@
 -- Assumes nothing.
 use mathlib.Core.Path.{_≡_, refl}
 use mathlib.Core.Bool.{Bool, true, false}
-use mathlib.Core.List.{List, [], _∷_, List·Memᴰ, List·Memᴰ·head, Memᴰ·append-left, Memᴰ·append-right}
+use mathlib.Core.List.{List, [], _∷_, List·Memᴰ, List·Memᴰ·head, Memᴰ·append-left, Memᴰ·append-right, Memᴰ·map}
 use Prim.Native.Nat.{ℕ, _≤_}
 use native.Mathlib.Omega.{arith}
 use lib.ListN.{length, getD}
-use Rattle.seq.specs.Members.{mem-map}
-use Rattle.seq.specs.Changes.{getD-mem}
+use Rattle.seq.proofs.Members.{mem-at}
 use Rattle.def.specs.State.{slots, highestPoc}
 use Rattle.keys.specs.declared.{Rest.Rest}
 use Rattle.keys.specs.Keys.{keyPresent, keyNumber, slotAt, stands}
 use Rattle.whole.specs.Whole.{whole, places}
-use Rattle.whole.specs.Laws.{whole-rules}
+use Rattle.whole.proofs.Laws.{whole-rules}
 use Rattle.apart.specs.Apart.{KeysFit}
 
 module _ (keys rows : List ℕ) (rest : Rest) (w : whole (stands keys rows rest) ≡ true) where
@@ -24,7 +23,7 @@ module _ (keys rows : List ℕ) (rest : Rest) (w : whole (stands keys rows rest)
       pick false e = let z = whole-rules (stands keys rows rest) w .empty-zero (slotAt rows k) m e .poc-zero in omega arith
 
   pub keys-fit : length keys ≡ slots → KeysFit keys
-  keys-fit l i h = fits (getD keys i 0) (Memᴰ·append-left (slotAt rows (rest .lease) ∷ []) (mem-map (slotAt rows) (getD-mem 0 keys i (omega arith))))
+  keys-fit l i h = fits (getD keys i 0) (Memᴰ·append-left (slotAt rows (rest .lease) ∷ []) (Memᴰ·map (slotAt rows) (mem-at keys i 0 (omega arith))))
 
   pub lease-fits : keyNumber (rest .lease) ≤ highestPoc
   lease-fits = fits (rest .lease) (Memᴰ·append-right (stands keys rows rest .pic) (List·Memᴰ·head refl))

@@ -3,7 +3,7 @@
 use mathlib.Core.Path.{_≡_, refl, sym, ap, ap₂, _∙_}
 use mathlib.Core.Bool.{Bool, true, false, not, _&&_, _||_, and-false}
 use mathlib.Core.Bool as Bool
-use mathlib.Core.List.{List, [], _∷_, _++_, map, List·Memᴰ, List·Memᴰ·head, List·Memᴰ·not-nil, List·Memᴰ·append-cases, List·Memᴰ·eq-of-singleton, Memᴰ·append-left, Memᴰ·append-right}
+use mathlib.Core.List.{List, [], _∷_, _++_, map, List·Memᴰ, List·Memᴰ·head, List·Memᴰ·not-nil, List·Memᴰ·append-cases, List·Memᴰ·eq-of-singleton, Memᴰ·append-left, Memᴰ·append-right, Memᴰ·map}
 use mathlib.Core.Logic.{⊎-elim}
 use Prim.Native.Nat.{ℕ, _+_, _<_, _≤_}
 use native.Mathlib.Omega.{arith}
@@ -12,17 +12,17 @@ use native.Mathlib.Numerals.{add-one}
 use lib.ListN.{length, getD, take, drop, set, length-set, length-map, drop-of-length-le}
 use lib.Seq.{take-all, take-suc}
 use borrow.Author.Tests.{lt-ltb}
-use Rattle.seq.specs.Lists.{all, count, select}
-use Rattle.seq.specs.All.{and-left, and-both, all-true, all-holds}
-use Rattle.seq.specs.Members.{mem-map, mem-unmap, select-mem, holds-tail}
-use Rattle.seq.specs.Commute.{map-append, map-count, map-select, map-map, fill-turn}
-use Rattle.seq.specs.Walks.{drop-step}
+use Rattle.seq.specs.Lists.{allOf, countIf, select}
+use Rattle.seq.proofs.Tests.{and-left, and-both, all-true, all-holds}
+use Rattle.seq.proofs.Members.{mem-unmap, select-mem, holds-tail}
+use Rattle.seq.proofs.Maps.{map-append, map-count, map-select, map-map, fill-turn}
+use Rattle.seq.proofs.Walks.{drop-step}
 use Rattle.def.specs.State.{slots, noSlot, isPresent, isMarked, bufferOf}
 use Rattle.def.specs.declared.{Slot.Slot, EvcPm.EvcPm}
 use Rattle.keys.specs.declared.{Rest.Rest}
 use Rattle.keys.specs.Keys.{rowsLength, slotAt, listsIn, stands, Sized}
 use Rattle.whole.specs.Whole.{whole, places, buffersOf, zeroIfEmpty, pocFits}
-use Rattle.whole.specs.Laws.{rule, whole-rules}
+use Rattle.whole.proofs.Laws.{rule, whole-rules}
 use Rattle.apart.specs.Apart.{slotFits, bufferFits, keyFor, rowsWith, rowsOf, Shaped, TakenSlot, TakenSlots, TakenApart}
 use Rattle.apart.proofs.ApartLaws.{bare, bare-read, key-stray, key-none, with-long, rows-long, rows-lists, slots-read}
 
@@ -44,20 +44,20 @@ restFor pm = restWith pm (keyFor (pm .«pic_lease»))
 
 -- ---- what the rules see of a slot is not its list numbers
 
-all-bare : (p : Slot → Bool) → ((s : Slot) → p (bare s) ≡ p s) → (xs : List Slot) → all p (map bare xs) ≡ all p xs
-unfolding all
+all-bare : (p : Slot → Bool) → ((s : Slot) → p (bare s) ≡ p s) → (xs : List Slot) → allOf p (map bare xs) ≡ allOf p xs
+unfolding allOf
 all-bare p h [] = refl
 all-bare p h (x ∷ xs) = ap₂ (λ (a b : Bool). a && b) (h x) (all-bare p h xs)
 
 module _ (xs ys : List Slot) (same : map bare xs ≡ map bare ys) where
-  counts-same : (p : Slot → Bool) → ((s : Slot) → p (bare s) ≡ p s) → count p xs ≡ count p ys
-  counts-same p h = sym (forget xs) ∙ ap (count p) same ∙ forget ys
+  counts-same : (p : Slot → Bool) → ((s : Slot) → p (bare s) ≡ p s) → countIf p xs ≡ countIf p ys
+  counts-same p h = sym (forget xs) ∙ ap (countIf p) same ∙ forget ys
     where
-      forget : (zs : List Slot) → count p (map bare zs) ≡ count p zs
-      forget zs = map-count bare p zs ∙ ap (λ (q : Slot → Bool). count q zs) (λ i s. h s i)
+      forget : (zs : List Slot) → countIf p (map bare zs) ≡ countIf p zs
+      forget zs = map-count bare p zs ∙ ap (λ (q : Slot → Bool). countIf q zs) (λ i s. h s i)
 
-  alls-same : (p : Slot → Bool) → ((s : Slot) → p (bare s) ≡ p s) → all p xs ≡ all p ys
-  alls-same p h = sym (all-bare p h xs) ∙ ap (all p) same ∙ all-bare p h ys
+  alls-same : (p : Slot → Bool) → ((s : Slot) → p (bare s) ≡ p s) → allOf p xs ≡ allOf p ys
+  alls-same p h = sym (all-bare p h xs) ∙ ap (allOf p) same ∙ all-bare p h ys
 
   buffers-same : buffersOf xs ≡ buffersOf ys
   buffers-same = sym (forget xs) ∙ ap buffersOf same ∙ forget ys
@@ -87,22 +87,22 @@ module _ (pm : EvcPm) (rows : List ℕ) (long : length rows ≡ rowsLength) (sha
   places-are = ap (λ (l : List Slot). l ++ (q .«pic_lease» ∷ [])) pics-are ∙ sym (map-append readBack (pm .pic) (pm .«pic_lease» ∷ []))
 
   -- Some slot breaks a rule by itself: neither is whole.
-  stray-shows : (ss : List Slot) → all slotFits ss ≡ false → all zeroIfEmpty (map readBack ss) ≡ false
-  unfolding all
+  stray-shows : (ss : List Slot) → allOf slotFits ss ≡ false → allOf zeroIfEmpty (map readBack ss) ≡ false
+  unfolding allOf
   stray-shows [] e = e
   stray-shows (s ∷ ss) e = pick (slotFits s) refl (stray-shows ss) e
     where
-      pick : (f : Bool) → slotFits s ≡ f → (all slotFits ss ≡ false → all zeroIfEmpty (map readBack ss) ≡ false) → (f && all slotFits ss) ≡ false
-          → (zeroIfEmpty (readBack s) && all zeroIfEmpty (map readBack ss)) ≡ false
+      pick : (f : Bool) → slotFits s ≡ f → (allOf slotFits ss ≡ false → allOf zeroIfEmpty (map readBack ss) ≡ false) → (f && allOf slotFits ss) ≡ false
+          → (zeroIfEmpty (readBack s) && allOf zeroIfEmpty (map readBack ss)) ≡ false
       pick true f below e = rw (below e) (and-false (zeroIfEmpty (readBack s)))
       pick false f below e = rw (key-stray s f) refl
 
-  fits-where-whole : whole pm ≡ true → all slotFits (places pm) ≡ true
+  fits-where-whole : whole pm ≡ true → allOf slotFits (places pm) ≡ true
   fits-where-whole w = all-holds slotFits (places pm) each
     where
       below : (s : Slot) → List·Memᴰ s (places pm) → (p : Bool) → s .present ≡ p → (not p || ltb (s .buf) slots) ≡ true
       below s m false e = refl
-      below s m true e = lt-ltb (s .buf) slots (whole-rules pm w .buffers-below (s .buf) (mem-map bufferOf (select-mem isPresent (places pm) m e)))
+      below s m true e = lt-ltb (s .buf) slots (whole-rules pm w .buffers-below (s .buf) (Memᴰ·map bufferOf (select-mem isPresent (places pm) m e)))
 
       each : (s : Slot) → List·Memᴰ s (places pm) → slotFits s ≡ true
       each s m =
@@ -110,7 +110,7 @@ module _ (pm : EvcPm) (rows : List ℕ) (long : length rows ≡ rowsLength) (sha
           (and-both (all-true pocFits (places pm) (rule pm w 8) m) (below s m (s .present) refl))
 
   -- Every slot keeps its own rules: what is left of the rules sees the same in both.
-  module _ (fits : all slotFits (places pm) ≡ true) where
+  module _ (fits : allOf slotFits (places pm) ≡ true) where
     bare-all : (ss : List Slot) → ((s : Slot) → List·Memᴰ s ss → bare (readBack s) ≡ bare s) → map bare (map readBack ss) ≡ map bare ss
     bare-all [] h = refl
     bare-all (s ∷ ss) h = ap₂ {B = List Slot} (λ x xs. x ∷ xs) (h s (List·Memᴰ·head refl)) (bare-all ss (holds-tail h))
@@ -124,21 +124,21 @@ module _ (pm : EvcPm) (rows : List ℕ) (long : length rows ≡ rowsLength) (sha
     places-bare : map bare (places q) ≡ map bare (places pm)
     places-bare = ap (map bare) places-are ∙ bare-all (places pm) each-bare
 
-    zero-before : all zeroIfEmpty (places pm) ≡ true
+    zero-before : allOf zeroIfEmpty (places pm) ≡ true
     zero-before = all-holds zeroIfEmpty (places pm) (λ s m. and-left (zeroIfEmpty s) (pocFits s && bufferFits s) (all-true slotFits (places pm) fits m))
 
     zero-read : (s : Slot) → List·Memᴰ s (places pm) → zeroIfEmpty (readBack s) ≡ true
-    unfolding all
+    unfolding allOf
     zero-read s m = pick (s .present) refl
       where
         pick : (p : Bool) → s .present ≡ p → zeroIfEmpty (readBack s) ≡ true
         pick true p = let e : readBack s .present ≡ true = ap (λ (x : Slot). x .present) (each-bare s m) ∙ p in rw e refl
         pick false p = rw (key-none s (all-true slotFits (places pm) fits m) p) refl
 
-    zero-after : all zeroIfEmpty (places q) ≡ true
-    zero-after = ap (all zeroIfEmpty) places-are ∙ all-read (places pm) zero-read
+    zero-after : allOf zeroIfEmpty (places q) ≡ true
+    zero-after = ap (allOf zeroIfEmpty) places-are ∙ all-read (places pm) zero-read
       where
-        all-read : (ss : List Slot) → ((s : Slot) → List·Memᴰ s ss → zeroIfEmpty (readBack s) ≡ true) → all zeroIfEmpty (map readBack ss) ≡ true
+        all-read : (ss : List Slot) → ((s : Slot) → List·Memᴰ s ss → zeroIfEmpty (readBack s) ≡ true) → allOf zeroIfEmpty (map readBack ss) ≡ true
         all-read ss h = all-holds zeroIfEmpty (map readBack ss) (λ t m. let u = mem-unmap readBack ss m in ap zeroIfEmpty (u .2) ∙ h (u .0) (u .1))
 
     same-where-fits : whole q ≡ whole pm
@@ -154,17 +154,17 @@ module _ (pm : EvcPm) (rows : List ℕ) (long : length rows ≡ rowsLength) (sha
         ) refl
 
   pub whole-same : whole q ≡ whole pm
-  whole-same = pick (all slotFits (places pm)) refl
+  whole-same = pick (allOf slotFits (places pm)) refl
     where
-      none : (b : Bool) → whole pm ≡ b → all slotFits (places pm) ≡ false → b ≡ false
+      none : (b : Bool) → whole pm ≡ b → allOf slotFits (places pm) ≡ false → b ≡ false
       none false w e = refl
       none true w e = sym (fits-where-whole w) ∙ e
 
-      stray : (b : Bool) → whole q ≡ b → all slotFits (places pm) ≡ false → b ≡ false
+      stray : (b : Bool) → whole q ≡ b → allOf slotFits (places pm) ≡ false → b ≡ false
       stray false w e = refl
-      stray true w e = sym (rule q w 5) ∙ ap (all zeroIfEmpty) places-are ∙ stray-shows (places pm) e
+      stray true w e = sym (rule q w 5) ∙ ap (allOf zeroIfEmpty) places-are ∙ stray-shows (places pm) e
 
-      pick : (f : Bool) → all slotFits (places pm) ≡ f → whole q ≡ whole pm
+      pick : (f : Bool) → allOf slotFits (places pm) ≡ f → whole q ≡ whole pm
       pick true e = same-where-fits e
       pick false e = stray (whole q) refl e ∙ sym (none (whole pm) refl e)
 

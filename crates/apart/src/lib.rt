@@ -6,14 +6,14 @@ ghost use mathlib.Core.List.{map};
 ghost use Prim.Native.Nat.{_<_, _≤_};
 ghost use lib.Dec.{eqb};
 ghost use lib.ListN.{length};
-ghost use Rattle.seq.specs.Lists.{all};
+ghost use Rattle.seq.specs.Lists.{allOf};
 ghost use Rattle.def.specs.State.{highestPoc};
 ghost use Rattle.keys.specs.Keys.{keyNumber, rowsLength, slotWith, slotAt, listsIn, stands, Sized};
 ghost use Rattle.whole.specs.Whole.{whole};
 ghost use Rattle.apart.specs.Apart.{slotFits, TakenSlot, TakenSlots, TakenApart, KeysFit};
 use def::EvcPic;
 use def::EvcPm;
-use def::MAX_PB_SIZE;
+use def::MAX_PB;
 use def::MAX_POC;
 use def::Slot;
 use keys::ROW;
@@ -28,13 +28,11 @@ use keys::key::number_of;
 use keys::row::read_row;
 use keys::row::write_row;
 
-const MAX_PB: u8 = MAX_PB_SIZE as u8;
-
 // A key that stands for no picture and for no empty slot.
 const STRAY: u64 = 2;
 
 fn numbers_are_zero(list_poc: [u32; ROW]) -> bool
-    ensures { λ r. ⌜ r ≡ all (λ n. eqb n 0) «list_poc» ⌝ }
+    ensures { λ r. ⌜ r ≡ allOf (λ n. eqb n 0) «list_poc» ⌝ }
 {
     let mut ok = true;
     let mut i: usize = 0;

@@ -1,4 +1,4 @@
--- Document 01 writes floor(log2 n) of an n above 0: one less than the number of n's binary digits.
+-- floor(log2 n) of an n above 0: one less than the number of n's binary digits.
 -- Assumes nothing.
 use Prim.Native.Nat.{ℕ, _+_, _-_, _^_, _≤_, _<_}
 use lib.Ieee.{size}

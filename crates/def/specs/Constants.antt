@@ -1,4 +1,4 @@
--- Document 01, "Constants and depth rows": slice type 0 is unknown, 1 is I, 2 is P and 3 is B; every other byte is unknown too.
+-- Section 9 of the specification: slice type 0 is unknown, 1 is I, 2 is P and 3 is B; every other byte is unknown too.
 -- Assumes nothing.
 use Prim.Native.Nat.{ℕ}
 use mathlib.Core.Bool.{cond}

@@ -1,4 +1,4 @@
--- Document 01, "Turned-down calls": the number of each refusal, and what the Rust says or does in its place.
+-- Section 3 of the specification: the number of each refusal, and what the Rust says or does in its place.
 -- Assumes nothing.
 use Prim.Native.Nat.{ℕ, _≤_}
 use mathlib.Core.Path.{_≡_}

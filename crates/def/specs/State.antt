@@ -1,4 +1,4 @@
--- Document 01, "What must change shape": a picture lies by value in a slot, under a buffer number, beside a flag that says it is there.
+-- Section 1 of the specification: a picture lies by value in a slot, under a buffer number, beside a flag that says it is there.
 -- Here: the empty ones, what a slot may be asked, and the state with some parts replaced.
 -- Assumes nothing.
 use Prim.Native.Nat.{ℕ}
@@ -33,8 +33,8 @@ noSlot = record { present = false; buf = 0; pic = record { poc = 0; «is_ref» =
 abbrev pub noRefP : EvcRefP
 noRefP = record { present = false; buf = 0; poc = 0; «list_poc» = [] }
 
-abbrev pub held : EvcPic → ℕ → Slot
-held p b = record { present = true; buf = b; pic = p }
+abbrev pub occupiedBy : EvcPic → ℕ → Slot
+occupiedBy p b = record { present = true; buf = b; pic = p }
 
 abbrev pub isPresent : Slot → Bool
 isPresent s = s .present

@@ -17,11 +17,12 @@ pub const EXTRA_FRAME: usize = MAX_NUM_ACTIVE_REF_FRAME;
 pub const DRA_FRAME: usize = 1;
 // Slots of the picture store.
 pub const MAX_PB_SIZE: usize = MAX_NUM_REF_PICS + EXTRA_FRAME + DRA_FRAME;
+
+// The two as a byte, the width of the state's counts.
+pub const MAX_PB: u8 = MAX_PB_SIZE as u8;
+
+pub const MAX_REFS: u8 = MAX_NUM_REF_PICS as u8;
 // Reference lists: forward, then backward.
-pub const REFP_0: usize = 0;
-
-pub const REFP_1: usize = 1;
-
 pub const REFP_NUM: usize = 2;
 
 pub const FRM_DEPTH_0: u8 = 0;
@@ -35,10 +36,6 @@ pub const FRM_DEPTH_3: u8 = 3;
 pub const FRM_DEPTH_4: u8 = 4;
 
 pub const FRM_DEPTH_5: u8 = 5;
-
-pub const FRM_DEPTH_6: u8 = 6;
-
-pub const FRM_DEPTH_MAX: u8 = 7;
 
 // The highest picture number: the Rust keeps it in an i32.
 pub const MAX_POC: u32 = 0x7fff_ffff;
@@ -65,18 +62,18 @@ pub fn slice_type_of(byte: u8) -> SliceType
 // A call that is turned down says why by one of these; `refusal_number` is its number. 10 and 12 are withdrawn and not used again.
 pub enum Refusal {
     SizeTooBig,
-    // Document 01 calls it rack full.
+    // The papers call it rack full.
     StoreFull,
     PictureLeased,
     NoLease,
     SlotTaken,
     NumberTooHigh,
-    // Document 01 calls it torn rack.
+    // The papers call it torn rack.
     StateNotWhole,
     TooManyReferences,
     NoReferences,
     ForwardListEmpty,
-    // Document 01 calls it twin.
+    // The papers call it twin.
     SameNumber,
     NoSuchPlace,
     BadLayer,

@@ -8,10 +8,9 @@ use lib.Count.{trailingZeros}
 use lib.Dec.{ltb, eqb}
 use lib.Ieee as Ieee
 use borrow.Author.Tests.{eqb-true, ltb-true}
-use Rattle.seq.specs.Lists.{all}
-use Rattle.seq.specs.Table.{entries, entriesFrom}
-use Rattle.seq.specs.All.{and-left, and-right}
-use Rattle.seq.specs.Fills.{test-at}
+use Rattle.seq.specs.Lists.{allOf, entries, entriesFrom}
+use Rattle.seq.proofs.Tests.{and-left, and-right}
+use Rattle.seq.proofs.Rows.{test-at}
 use Rattle.def.specs.Binary.{floorLog2}
 use Rattle.def.specs.declared.Refusal.the-variants.{BadLength}
 use Rattle.tbl.specs.DepthRows.{isGopSize, depthRule, depthRuleP, sliceDepth, sliceDepthP}
@@ -34,9 +33,9 @@ each-size P p2 p4 p8 p16 n e = go (eqb n 2) (eqb n 4) (eqb n 8) (eqb n 16) refl 
     go false false false false ha hb hc hd h = absurd (false≢true h)
 
 -- one test over each row
-rows-above : (n : ℕ) → isGopSize n ≡ true → all (λ k. ltb 0 (depthRuleP n k)) (entries (λ k. k) n) ≡ true
-unfolding all entries entriesFrom depthRuleP floorLog2 trailingZeros Ieee.size
-rows-above = each-size (λ (n : ℕ). all (λ k. ltb 0 (depthRuleP n k)) (entries (λ k. k) n) ≡ true) refl refl refl refl
+rows-above : (n : ℕ) → isGopSize n ≡ true → allOf (λ k. ltb 0 (depthRuleP n k)) (entries (λ k. k) n) ≡ true
+unfolding allOf entries entriesFrom depthRuleP floorLog2 trailingZeros Ieee.size
+rows-above = each-size (λ (n : ℕ). allOf (λ k. ltb 0 (depthRuleP n k)) (entries (λ k. k) n) ≡ true) refl refl refl refl
 
 above-zero : (n j : ℕ) → isGopSize n ≡ true → j < n → 0 < depthRuleP n j
 above-zero n j e h = ltb-true 0 (depthRuleP n j) (test-at (λ k. ltb 0 (depthRuleP n k)) (λ k. k) n (rows-above n e) j h)

@@ -10,8 +10,8 @@ use poc::Derivation;
 use poc::PocAnswer;
 ghost use mathlib.Core.Path.{_≡_};
 ghost use Prim.Native.Nat.{_≤_};
-ghost use Rattle.poc.specs.PictureNumber.{derive, keyPicture, otherPicture, badRecord, refused};
-ghost use Rattle.poc.specs.Number.{accepted};
+ghost use Rattle.poc.specs.PictureNumber.{derive, keyPicture, otherPicture, badRecord, derivationRefused};
+ghost use Rattle.poc.specs.Number.{derivedAs};
 ghost use Rattle.poc.specs.Domain.{Checked};
 
 // The longest sub-group has 2^15 pictures, so no decoding offset is above 2^15 - 1.
@@ -21,7 +21,7 @@ const MAX_DOC_OFFSET: i32 = 32767;
 
 // A call turned down leaves the record as it was.
 fn refused(why: Refusal, poc: EvcPoc) -> Derivation
-    ensures { λ r. ⌜ r ≡ refused why poc ⌝ }
+    ensures { λ r. ⌜ r ≡ derivationRefused why poc ⌝ }
 {
     Derivation {
         answer: PocAnswer::Refused(why),
@@ -31,7 +31,7 @@ fn refused(why: Refusal, poc: EvcPoc) -> Derivation
 
 // The number answered, with the record for the next call.
 fn accepted(poc_val: PocVal, prev_poc_val: u32, prev_doc_offset: DocOffset) -> Derivation
-    ensures { λ r. ⌜ r ≡ accepted «poc_val» «prev_poc_val» «prev_doc_offset» ⌝ }
+    ensures { λ r. ⌜ r ≡ derivedAs «poc_val» «prev_poc_val» «prev_doc_offset» ⌝ }
 {
     Derivation {
         answer: PocAnswer::Derived(poc_val),

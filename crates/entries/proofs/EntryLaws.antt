@@ -7,7 +7,7 @@ use native.Mathlib.Omega.{arith}
 use mir.Val.{boolByte}
 use lib.ListN.{length, getD, take, set}
 use lib.Seq.{take-all}
-use Rattle.seq.specs.Commute.{copy-turn}
+use Rattle.seq.proofs.Maps.{copy-turn}
 use Rattle.def.specs.State.{noRefP}
 use Rattle.def.specs.declared.{EvcRefP.EvcRefP}
 use Rattle.keys.specs.Keys.{rowsLength, headOf, entryAt, listsIn}

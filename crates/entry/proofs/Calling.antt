@@ -10,7 +10,7 @@ use Rattle.def.specs.declared.{EvcPm.EvcPm, EvcRefP.EvcRefP, PutCall.PutCall, P
 use Rattle.keys.specs.declared.{Called.Called}
 use Rattle.keys.specs.Keys.{listsIn, stands, Comes}
 use Rattle.whole.specs.Whole.{whole}
-use Rattle.picman.specs.Get.{refused, get, getWhole}
+use Rattle.picman.specs.Get.{pmRefused, get, getWhole}
 use Rattle.picman.specs.Init.{init, initWhole}
 use Rattle.picman.specs.Put.{remarked, putMarked, put, putWhole}
 use Rattle.picman.specs.Out.{out, outWhole}
@@ -24,12 +24,12 @@ use Rattle.entry.proofs.Opening.{came-whole, came-broken, opened-is, ca
 
 -- A definition refuses a state that is not whole, is another one on whole states, and keeps those whole.
 pub record Defined (d on : EvcPm → PmResult) : Type 0 where
-  pub broken : (pm : EvcPm) → whole pm ≡ false → d pm ≡ refused Refusal.StateNotWhole pm
+  pub broken : (pm : EvcPm) → whole pm ≡ false → d pm ≡ pmRefused Refusal.StateNotWhole pm
   pub on-whole : (pm : EvcPm) → whole pm ≡ true → d pm ≡ on pm
   pub keeps : (pm : EvcPm) → length (pm .pic) ≡ slots → whole pm ≡ true → whole (d pm .pm) ≡ true
 
 module _ {d on : EvcPm → PmResult} (f : Defined d on) {pm : EvcPm} {refp : List EvcRefP} {keys rows : List ℕ} {o : Opened} (p : Opens pm refp keys rows o) where
-  pub turned-away : o .«is_whole» ≡ false → refused Refusal.StateNotWhole pm ≡ d pm
+  pub turned-away : o .«is_whole» ≡ false → pmRefused Refusal.StateNotWhole pm ≡ d pm
   turned-away e = sym (f .broken pm (came-broken p e))
 
   module _ (e : o .«is_whole» ≡ true) {r : Called} {keys′ rows′ : List ℕ} {lists : List EvcRefP} (came : Comes r keys′ rows′ lists (on (stands keys rows (o .rest)))) where
@@ -56,7 +56,7 @@ pub out-defined : Defined out outWhole
 unfolding out
 out-defined = record { broken = λ pm e. rw e refl; on-whole = λ pm e. rw e refl; keeps = out-keeps-whole }
 
-broken-put : (pm : EvcPm) (refp : List EvcRefP) (c : PutCall) → putMarked false pm (remarked c pm) refp c ≡ refused Refusal.StateNotWhole pm
+broken-put : (pm : EvcPm) (refp : List EvcRefP) (c : PutCall) → putMarked false pm (remarked c pm) refp c ≡ pmRefused Refusal.StateNotWhole pm
 unfolding putMarked
 broken-put pm refp c = refl
 

@@ -10,7 +10,7 @@ use Rattle.def.specs.declared.{EvcPm.EvcPm, EvcRefP.EvcRefP, RefpCall.RefpCall,
 use Rattle.keys.specs.declared.{Called.Called}
 use Rattle.keys.specs.Keys.{slotAt, listsIn, stands, ComesLists}
 use Rattle.whole.specs.Whole.{whole}
-use Rattle.refp.specs.Lists.{refused, lists, listsWhole}
+use Rattle.refp.specs.Lists.{listsRefused, lists, listsWhole}
 use Rattle.refp.proofs.ListLaws.{lists-stay-whole}
 use Rattle.entry.specs.declared.{Opened.Opened}
 use Rattle.entry.specs.Entry.{Opens}
@@ -34,7 +34,7 @@ module _ {pm : EvcPm} {refp : List EvcRefP} {keys rows : List ℕ} {o : Opened} 
 -- ---- a list call
 
 module _ {pm : EvcPm} {refp : List EvcRefP} {keys rows : List ℕ} {o : Opened} (p : Opens pm refp keys rows o) (c : RefpCall) where
-  pub lists-turned-away : o .«is_whole» ≡ false → refused Refusal.StateNotWhole pm refp ≡ lists pm refp c
+  pub lists-turned-away : o .«is_whole» ≡ false → listsRefused Refusal.StateNotWhole pm refp ≡ lists pm refp c
   unfolding lists
   lists-turned-away e = rw (came-broken p e) refl
 

@@ -19,7 +19,7 @@ ghost use mathlib.Core.Bool.{true};
 ghost use Rattle.def.specs.declared.Refusal.{Refusal};
 ghost use Rattle.keys.specs.Keys.{stands, listsIn, Sized};
 ghost use Rattle.whole.specs.Whole.{whole};
-ghost use Rattle.picman.specs.Get.{refused};
+ghost use Rattle.picman.specs.Get.{pmRefused};
 ghost use Rattle.entry.specs.Entry.{Opens};
 
 // Whether a state that came is whole, with the rest of it beside keys and rows.
@@ -39,7 +39,7 @@ fn open_state(pm: EvcPm, keys: &mut [u64], rows: &mut [u32]) -> Opened
 
 // A state that is not whole, as it came.
 fn not_whole(pm: EvcPm) -> PmResult
-    ensures { λ r. ⌜ r ≡ refused Refusal.StateNotWhole pm ⌝ }
+    ensures { λ r. ⌜ r ≡ pmRefused Refusal.StateNotWhole pm ⌝ }
 {
     PmResult {
         answer: Answer::Refused(Refusal::StateNotWhole),

@@ -8,7 +8,7 @@ use native.Mathlib.Omega.{arith}
 use lib.Dec.{eqb}
 use lib.ListN.{length}
 use borrow.Author.Tests.{eqb-true, eq-eqb, ne-eqb}
-use Rattle.seq.specs.All.{and-left, and-right}
+use Rattle.seq.proofs.Tests.{and-left, and-right}
 use Rattle.def.specs.State.{slots}
 use Rattle.def.specs.declared.EvcPoc.{EvcPoc}
 use Rattle.keys.specs.declared.Rest.{Rest}
@@ -21,7 +21,7 @@ use Rattle.machine.specs.Running.{machineIn}
 use Rattle.machine.specs.Lent.{slices, machineAt, sized}
 use Rattle.stepping.specs.Parts.{TakenMachine}
 use Rattle.stepping.proofs.Stepping.{same-machine}
-use Rattle.exchange.specs.Lent.{badLine, notWhole, left, machineOf, machineBytes, Holds}
+use Rattle.exchange.specs.Lent.{badLine, notWhole, left, machineOf, machineBytes, ImageHolds}
 use Rattle.exchange.specs.Exchanged.{loadStatus, Loads, saved, Saves}
 
 -- scalars by their parts are those that registers are read as
@@ -91,11 +91,11 @@ module _ (keys rows registers : List ℕ) where
       save-not-whole w = save-refused notWhole (rw (fit, eq-eqb (length image) imageLength long, w)) (λ z. omega arith)
 
       pub save-done : whole (stands keys rows (restOf registers)) ≡ true → (m : Machine) (s : Scalars) → m ≡ machineIn keys rows s → restOf registers ≡ s .rest → pocOf registers ≡ s .poc
-          → (image′ : List ℕ) → image′ ≡ machineBytes m → Holds image′ m → Saves 0 keys rows registers image image′
+          → (image′ : List ℕ) → image′ ≡ machineBytes m → ImageHolds image′ m → Saves 0 keys rows registers image image′
       save-done w m s e f g image′ b h =
           let same : m ≡ machineAt (slices keys rows registers) = e ∙ sym (scalars-at keys rows registers s f g) in
           record {
             given = rw (fit, eq-eqb (length image) imageLength long, w) (ap (left 0) (b ∙ ap machineBytes same));
-            holds = λ z. subst (Holds image′) same h;
+            holds = λ z. subst (ImageHolds image′) same h;
             kept = λ t. absurd (omega (arith, t .0));
           }

@@ -12,7 +12,7 @@ use denote.Array.{Array, each}
 use denote.Laws.{Is}
 use denote.Struct.Field.{Field, u32-field}
 use denote.Struct.Declared.{row, field}
-use Rattle.seq.specs.Members.{holds-cons}
+use Rattle.seq.proofs.Members.{holds-cons}
 use Rattle.def.proofs.Slot as slot
 use Rattle.def.proofs.EvcPm as pm
 use Rattle.def.proofs.EvcRefP as refp
@@ -23,10 +23,10 @@ use Rattle.def.specs.declared.EvcPm.{EvcPm}
 use Rattle.def.specs.declared.EvcRefP.{EvcRefP}
 use Rattle.def.specs.declared.EvcPoc.{EvcPoc}
 use Rattle.image.specs.Fits.{FitsWord, ListFits, SlotFits, PmFits, RefPFits, PocFits, ContentsFit}
-use Rattle.image.specs.ContentsKept.{contents-kept}
-use Rattle.image.specs.ContentsImage.{contents-image}
+use Rattle.image.proofs.ContentsKept.{contents-kept}
+use Rattle.image.proofs.ContentsImage.{contents-image}
 use Rattle.machine.specs.declared.Machine.{Machine}
-use Rattle.exchange.specs.Lent.{machineBytes, Holds}
+use Rattle.exchange.specs.Lent.{machineBytes, ImageHolds}
 
 -- an array: its length, and what holds of each element
 module _ (F : Field) (P : F .Value → Type 0) (tells : (x : F .Value) (vs : List Val) → Is (F .row) (F .into x) vs → P x) where
@@ -99,7 +99,7 @@ machine-fits m vs g =
       kept = poc-fits (m .poc) _ (all .1 .1 .0);
     }
 
-pub holds : (m : Machine) (vs : List Val) → Is (row machine.the-type) m vs → Holds (machineBytes m) m
+pub holds : (m : Machine) (vs : List Val) → Is (row machine.the-type) m vs → ImageHolds (machineBytes m) m
 holds m vs g =
     let fits = machine-fits m vs g in
     let kept = contents-kept (m .pm) (m .refp) (m .poc) fits in

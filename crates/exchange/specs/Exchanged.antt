@@ -10,7 +10,7 @@ use Rattle.def.specs.Refusals.{NumberInUse}
 use Rattle.whole.specs.Whole.{whole}
 use Rattle.image.specs.Image.{imageLength, isImage}
 use Rattle.machine.specs.Lent.{slices, machineAt, sized}
-use Rattle.exchange.specs.Lent.{badLine, notWhole, Left, left, machineOf, machineBytes, Holds}
+use Rattle.exchange.specs.Lent.{badLine, notWhole, Left, left, machineOf, machineBytes, ImageHolds}
 
 -- ---- load
 
@@ -40,5 +40,5 @@ saved keys rows registers image =
 
 pub record Saves (r : ℕ) (keys rows registers image image′ : List ℕ) : Type 0 where
   pub given : left r image′ ≡ saved keys rows registers image
-  pub holds : r ≡ 0 → Holds image′ (machineAt (slices keys rows registers))
+  pub holds : r ≡ 0 → ImageHolds image′ (machineAt (slices keys rows registers))
   pub kept : NumberInUse r → image′ ≡ image

@@ -7,7 +7,7 @@ use mathlib.Core.List.{List}
 use Rattle.image.specs.Image.{imageBytes, pmOf, refpOf, pocOf, isImage}
 use Rattle.machine.specs.declared.Machine.{Machine}
 
--- The number that is given where a size or a flag byte does not fit, and for a bad call: document 01's bad line.
+-- The number that is given where a size or a flag byte does not fit, and for a bad call: that of a bad line.
 abbrev pub badLine : ℕ
 badLine = 18
 
@@ -30,6 +30,6 @@ abbrev pub machineBytes : Machine → List ℕ
 machineBytes m = imageBytes (m .pm) (m .refp) (m .poc)
 
 -- The bytes are an image, and the next call reads this machine from them.
-pub record Holds (bs : List ℕ) (m : Machine) : Type 0 where
+pub record ImageHolds (bs : List ℕ) (m : Machine) : Type 0 where
   pub image : isImage bs ≡ true
   pub machine : machineOf bs ≡ m

@@ -1,18 +1,19 @@
 // The running machine and the image, its form for exchange: an image is read and written by value, loaded into lent arrays and saved from
 // them. Any bits may stand in the arrays and in the image. A state that is not whole is turned down both ways: keys cannot say every such state.
 use image::is_image;
+use image::places::IMAGE_LENGTH;
 use image::read::read_pm;
 use image::read::read_poc;
 use image::read::read_refps;
 use image::write::write_image;
 use keys::ROWS;
 use keys::SLOTS;
+use line::BAD_LINE;
 use machine::Machine;
 use machine::Scalars;
 use registers::poc_of;
 use registers::rest_of;
 use registers::store;
-use sizing::BAD_LINE;
 use sizing::is_sized;
 use stepping::parts::put_machine;
 use stepping::parts::take_machine;
@@ -23,14 +24,12 @@ ghost use lib.ListN.{length};
 ghost use Rattle.whole.specs.Whole.{whole};
 ghost use Rattle.image.specs.Image.{imageLength, isImage};
 ghost use Rattle.machine.specs.Lent.{slices, sized};
-ghost use Rattle.exchange.specs.Lent.{machineOf, machineBytes, Holds};
+ghost use Rattle.exchange.specs.Lent.{machineOf, machineBytes, ImageHolds};
 ghost use Rattle.exchange.specs.Exchanged.{Loads, Saves};
 
 const NOT_WHOLE: u8 = 7;
 
 const DONE: u8 = 0;
-
-const IMAGE_LENGTH: usize = 6407;
 
 pub fn read_machine(image: &[u8]) -> Machine
     requires { ⌜ length (now image) ≡ imageLength ⌝ }
@@ -45,7 +44,7 @@ pub fn read_machine(image: &[u8]) -> Machine
 pub fn write_machine(image: &mut [u8], machine: Machine)
     requires { ⌜ length (now image) ≡ imageLength ⌝ }
     ensures bytes { λ _. ⌜ now (image .exit) ≡ machineBytes machine ⌝ }
-    ensures holds { λ _. ⌜ Holds (now (image .exit)) machine ⌝ }
+    ensures holds { λ _. ⌜ ImageHolds (now (image .exit)) machine ⌝ }
 {
     let pm = machine.pm;
     let refp = machine.refp;

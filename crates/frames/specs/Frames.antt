@@ -1,26 +1,19 @@
 -- The frames to check by hand: the twelve that are marked with a star, as one list of what the definitions give beside what is said of them,
--- and one proof that computes over the whole list. Twelve stars are thirteen rows: the star of L 0, layer 0 says two things, what previous
--- 2,147,483,646 gives and what comes from there.
+-- and one proof that computes over the whole list (proofs/Frames.antt). Twelve stars are thirteen rows: the star of L 0, layer 0 says two
+-- things, what previous 2,147,483,646 gives and what comes from there.
 -- Assumes nothing.
 use Prim.Native.Nat.{ℕ}
-use mathlib.Core.Path.{_≡_, refl}
+use mathlib.Core.Path.{_≡_}
 use mathlib.Core.Bool.{Bool, true, false}
 use mathlib.Core.List.{List, [], _∷_, _++_, map}
 use lib.IntN.{ℤ, pos, negsuc}
-use lib.Ieee.{size, span, climb}
 use lib.ListN.{replicate, take, drop}
-use Rattle.seq.specs.Lists.{all, any, count, select, allDiffer, selectAt, moveTo}
-use Rattle.def.specs.Binary.{floorLog2}
-use Rattle.def.specs.State.{listPlaces, emptySlot, held, newPm, withStore}
+use Rattle.def.specs.State.{listPlaces, emptySlot, occupiedBy, newPm, withStore}
 use Rattle.def.specs.declared.{Slot.Slot, EvcPm.EvcPm, EvcRefP.EvcRefP, EvcPoc.EvcPoc, RefpCall.RefpCall, Answer.Answer, Refusal.Refusal, SliceType.SliceType}
-use Rattle.whole.specs.Whole.{whole}
 use Rattle.poc.specs.declared.PocAnswer.{PocAnswer}
-use Rattle.poc.specs.PictureNumber.{derive, recordOf, offsetFrom, seek, inLayer}
-use Rattle.marking.specs.Marking.{marking, marked, sweep, slide, excess, unmarkFirst, noteFirst, lastWalk}
-use Rattle.ordering.specs.Order.{keysFrom, insertKey, ordered, down}
-use Rattle.passes.specs.Passes.{passOn, pass}
-use Rattle.choosing.specs.Choice.{choice}
-use Rattle.refp.specs.Lists.{listsWhole, lists}
+use Rattle.poc.specs.PictureNumber.{derive, recordOf}
+use Rattle.marking.specs.Marking.{marking}
+use Rattle.refp.specs.Lists.{lists}
 
 -- What a frame shows: a derivation's answer with the previous number after it; the slots after marking with the stored count; or the answer of
 -- a list call, the two stored counts, and the numbers of so many entries of each list.
@@ -47,15 +40,15 @@ abbrev pub is : ℤ → PocAnswer
 is z = PocAnswer.Derived (record { 0 = z })
 
 -- The record after derivations of these layers.
-unfoldable pub after : ℕ → List ℕ → EvcPoc → EvcPoc
+unfoldable pub stateAfter : ℕ → List ℕ → EvcPoc → EvcPoc
 unfolding derive
-after L [] r = r
-after L (t ∷ ts) r = after L ts (derive L t r .poc)
+stateAfter L [] r = r
+stateAfter L (t ∷ ts) r = stateAfter L ts (derive L t r .poc)
 
 -- A picture of this number and layer, in the buffer of its number; marked, or not any more.
 abbrev pub picture : Bool → ℕ → ℕ → Slot
 picture isRef poc layer =
-    held (record { poc = poc; «is_ref» = isRef; «need_for_out» = false; «temporal_id» = layer; «list_poc» = replicate listPlaces 0 }) poc
+    occupiedBy (record { poc = poc; «is_ref» = isRef; «need_for_out» = false; «temporal_id» = layer; «list_poc» = replicate listPlaces 0 }) poc
 
 abbrev pub ref : ℕ → Slot
 ref poc = picture true poc 0
@@ -92,24 +85,23 @@ listsOf n pm c =
 
 -- In the order in which they are given.
 unfoldable pub frames : List Frame
-unfolding after
+unfolding stateAfter
 frames =
     frame (derived 3 1 (before 8 0)) (number (is (pos 4)) 8)
-    ∷ frame (derived 3 2 (after 3 (1 ∷ []) (before 8 0))) (number (is (pos 2)) 8)
-    ∷ frame (derived 3 2 (after 3 (1 ∷ 2 ∷ []) (before 8 0))) (number (is (pos 6)) 8)
-    ∷ frame (derived 3 3 (after 3 (1 ∷ 2 ∷ 2 ∷ []) (before 8 0))) (number (is (pos 1)) 8)
+    ∷ frame (derived 3 2 (stateAfter 3 (1 ∷ []) (before 8 0))) (number (is (pos 2)) 8)
+    ∷ frame (derived 3 2 (stateAfter 3 (1 ∷ 2 ∷ []) (before 8 0))) (number (is (pos 6)) 8)
+    ∷ frame (derived 3 3 (stateAfter 3 (1 ∷ 2 ∷ 2 ∷ []) (before 8 0))) (number (is (pos 1)) 8)
     ∷ frame (derived 3 1 (before 8 7)) (number (is (pos 12)) 16)
     ∷ frame (derived 2 1 (before 0 0)) (number (is (negsuc 1)) 0)
     ∷ frame (derived 15 15 (before 32768 32766)) (number (is (pos 32767)) 32768)
     ∷ frame (derived 0 1 (before 0 0)) (number (PocAnswer.Refused Refusal.BadLayer) 0)
     ∷ frame (derived 0 0 (before 2147483646 0)) (number (is (pos 2147483647)) 2147483647)
-    ∷ frame (derived 0 0 (after 0 (0 ∷ []) (before 2147483646 0))) (number (PocAnswer.Refused Refusal.NumberTooHigh) 2147483647)
+    ∷ frame (derived 0 0 (stateAfter 0 (0 ∷ []) (before 2147483646 0))) (number (PocAnswer.Refused Refusal.NumberTooHigh) 2147483647)
     ∷ frame (marks 0 (holding (ref 0 ∷ ref 1 ∷ ref 2 ∷ ref 3 ∷ ref 4 ∷ empty 22) 5))
     (store (ref 1 ∷ ref 2 ∷ ref 3 ∷ ref 4 ∷ (empty 22 ++ (picture false 0 0 ∷ []))) 4)
     ∷ frame (marks 4 (holding (ref 3 ∷ ref 4 ∷ ref 5 ∷ empty 24) 3)) (store (ref 3 ∷ ref 4 ∷ (empty 24 ++ (picture false 5 0 ∷ []))) 2)
     ∷ frame (listsOf 2 asked request) (both (Answer.Counts 2 2) 2 2 (0 ∷ 4 ∷ []) (4 ∷ 8 ∷ []))
     ∷ []
 
-pub frames-hold : map (λ (f : Frame). f .given) frames ≡ map (λ (f : Frame). f .said) frames
-unfolding frames after derive offsetFrom seek inLayer floorLog2 size span climb marked sweep selectAt slide excess count unmarkFirst noteFirst lastWalk moveTo whole all any select allDiffer listsWhole lists choice down keysFrom ordered insertKey pass passOn
-frames-hold = refl
+abbrev pub FramesHold : Type 0
+FramesHold = map (λ (f : Frame). f .given) frames ≡ map (λ (f : Frame). f .said) frames

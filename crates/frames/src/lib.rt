@@ -1,1 +1,1 @@
-// The starred frames of document 01, in specs/; no code.
+// The frames of tape that are theorems, in specs/; no code.

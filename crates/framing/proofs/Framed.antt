@@ -10,20 +10,20 @@ use lib.Dec.{ltb, eqb}
 use lib.ListN.{length, take}
 use lib.Seq.{take-take}
 use borrow.Author.Tests.{ltb-true, ne-eqb, eq-eqb}
-use Rattle.seq.specs.Lists.{all}
-use Rattle.seq.specs.All.{and-left, and-right}
+use Rattle.seq.specs.Lists.{allOf}
+use Rattle.seq.proofs.Tests.{and-left, and-right}
 use Rattle.hex.specs.Hex.{isDigit, isHex, bytesOf, sum8}
 use Rattle.hex.specs.Frame.{isChecked, isFramed, bodyOf, Kind, fromLine}
 use Rattle.hex.proofs.HexLaws.{bytes-length, not-second}
 
 module _ (cs : List ℕ) where
   pub odd : (length cs % 2 ≡ 0 → ⊥) → isFramed cs ≡ false
-  odd h = ap (λ (b : Bool). b && isChecked (bytesOf cs)) (not-second (all isDigit cs) (eqb (length cs % 2) 0) (ne-eqb (length cs % 2) 0 h))
+  odd h = ap (λ (b : Bool). b && isChecked (bytesOf cs)) (not-second (allOf isDigit cs) (eqb (length cs % 2) 0) (ne-eqb (length cs % 2) 0 h))
 
-  pub no-hex : all isDigit cs ≡ false → isFramed cs ≡ false
+  pub no-hex : allOf isDigit cs ≡ false → isFramed cs ≡ false
   no-hex e = ap (λ (b : Bool). (b && eqb (length cs % 2) 0) && isChecked (bytesOf cs)) e
 
-  pub hex : all isDigit cs ≡ true → length cs % 2 ≡ 0 → isFramed cs ≡ isChecked (bytesOf cs)
+  pub hex : allOf isDigit cs ≡ true → length cs % 2 ≡ 0 → isFramed cs ≡ isChecked (bytesOf cs)
   hex e f = rw (e, eq-eqb (length cs % 2) 0 f)
 
   -- A framed line has a byte at least, its check byte.

@@ -7,7 +7,8 @@ use mathlib.Core.Path.{_≡_, refl, sym, ap, subst, _∙_}
 use mathlib.Core.List.{List, [], _∷_, _++_, append-assoc}
 use lib.ListN.{length, take, drop, set}
 use lib.Seq.{take-all, paste}
-use Rattle.seq.specs.Stores.{Stored, stored-one, stored-then, stored-part}
+use Rattle.seq.specs.Lists.{Stored}
+use Rattle.seq.proofs.Stores.{stored-one, stored-then, stored-part}
 use Rattle.hex.specs.Hex.{digitOf, digitsOf, checkByte}
 use Rattle.buffer.specs.Buffer.{newline}
 use Rattle.framing.specs.Framing.{wholeOf, lineSize}

@@ -11,7 +11,7 @@ ghost use mathlib.Core.Bool.{true};
 ghost use Prim.Native.Nat.{_*_, _/_, _≤_};
 ghost use lib.ListN.{length, take};
 ghost use lib.Seq.{paste};
-ghost use Rattle.seq.specs.Stores.{Stored};
+ghost use Rattle.seq.specs.Lists.{Stored};
 ghost use Rattle.hex.specs.Hex.{bytesOf, digitsOf};
 ghost use Rattle.hex.specs.Frame.{isFramed};
 ghost use Rattle.framing.specs.Framing.{lineSize, wholeOf};

@@ -10,7 +10,7 @@ use lib.Dec.{eqb}
 use lib.IntN.{pos}
 use lib.Ieee as Ieee
 use borrow.Author.Tests.{le-ltb, eq-eqb, ne-eqb, eqb-false, not-false}
-use Rattle.seq.specs.Members.{mem-unmap, mem-select}
+use Rattle.seq.proofs.Members.{mem-unmap, mem-select}
 use Rattle.def.specs.Binary.{floorLog2}
 use Rattle.def.specs.Constants.{sliceTypeOf}
 use Rattle.def.specs.declared.{EvcPoc.EvcPoc, Refusal.Refusal, SliceType.SliceType}
@@ -18,7 +18,7 @@ use Rattle.tbl.specs.DepthRows.{isGopSize, depthRule}
 use Rattle.poc.specs.declared.{PocAnswer.PocAnswer, Derivation.Derivation}
 use Rattle.poc.specs.PictureNumber.{maxPoc, maxLog2, derive}
 use Rattle.poc.specs.Why.{Refusing}
-use Rattle.poc.specs.Distance.{Step, run, isAccepted, accepted, numberOf, layerOf, AfterKey, Between, Apart}
+use Rattle.poc.specs.Distance.{Step, run, isAccepted, acceptedSteps, numberOf, layerOf, AfterKey, Between, Apart}
 use Rattle.poc.specs.FullRun.{layersFrom, fullRun, IsFullRun}
 use Rattle.poc.proofs.Apart.{distance-from}
 use Rattle.poc.proofs.FullRun.{full-run-exists}
@@ -65,21 +65,21 @@ record First (p : ℕ) (x : Planning) : Type 0 where
 
 -- the conclusions, from the rule's and the derivations that the plans are
 module _ (inter : SliceType) (L p : ℕ) (x : Planning) (xs : List Planning) (one : First p x)
-    (are : xs ≡ map (planOf inter L) (accepted (x .poc) (fullRun L))) (exists : IsFullRun L (x .poc) (fullRun L)) where
-  apart : Apart L p (accepted (x .poc) (fullRun L))
+    (are : xs ≡ map (planOf inter L) (acceptedSteps (x .poc) (fullRun L))) (exists : IsFullRun L (x .poc) (fullRun L)) where
+  apart : Apart L p (acceptedSteps (x .poc) (fullRun L))
   apart = distance-from L p (x .poc) (fullRun L) (one .after) (exists .meets)
 
-  numbers : map plannedNumber xs ≡ map numberOf (accepted (x .poc) (fullRun L))
-  numbers = ap (map plannedNumber) are ∙ numbers-as inter L (accepted (x .poc) (fullRun L))
+  numbers : map plannedNumber xs ≡ map numberOf (acceptedSteps (x .poc) (fullRun L))
+  numbers = ap (map plannedNumber) are ∙ numbers-as inter L (acceptedSteps (x .poc) (fullRun L))
 
   -- a plan is that of an accepted derivation
-  from-step : (Q : Planning → Type 0) → ((s : Step) → List·Memᴰ s (accepted (x .poc) (fullRun L)) → Q (planOf inter L s)) → (y : Planning) → List·Memᴰ y xs → Q y
+  from-step : (Q : Planning → Type 0) → ((s : Step) → List·Memᴰ s (acceptedSteps (x .poc) (fullRun L)) → Q (planOf inter L s)) → (y : Planning) → List·Memᴰ y xs → Q y
   from-step Q f y m =
-      let u = mem-unmap (planOf inter L) (accepted (x .poc) (fullRun L)) (subst (λ (l : List Planning). List·Memᴰ y l) are m) in
+      let u = mem-unmap (planOf inter L) (acceptedSteps (x .poc) (fullRun L)) (subst (λ (l : List Planning). List·Memᴰ y l) are m) in
       subst Q (sym (u .2)) (f (u .0) (u .1))
 
-  are-accepted : (s : Step) → List·Memᴰ s (accepted (x .poc) (fullRun L)) → isAccepted s ≡ true
-  unfolding accepted
+  are-accepted : (s : Step) → List·Memᴰ s (acceptedSteps (x .poc) (fullRun L)) → isAccepted s ≡ true
+  unfolding acceptedSteps
   are-accepted s m = mem-select isAccepted (run (x .poc) (fullRun L)) m .1
 
   run-of : PlannedRun L p inter x xs
@@ -121,7 +121,7 @@ plans-are-full-run length interval inter p r type g = (known .power, run-of (sli
     exists : IsFullRun (floorLog2 length) (firstOf p length interval inter r .poc) (fullRun (floorLog2 length))
     exists = full-run-exists (floorLog2 length) p (firstOf p length interval inter r .poc) (known .short) (g .highest) (one .after)
 
-    are : laterOf p length interval inter r ≡ map (planOf (sliceTypeOf inter) (floorLog2 length)) (accepted (firstOf p length interval inter r .poc) (fullRun (floorLog2 length)))
+    are : laterOf p length interval inter r ≡ map (planOf (sliceTypeOf inter) (floorLog2 length)) (acceptedSteps (firstOf p length interval inter r .poc) (fullRun (floorLog2 length)))
     are = rw (exists .none-turned-down) (all-between length interval inter p type g (firstOf p length interval inter r .poc))
 
 pub groups-exist : GroupsExist

@@ -7,9 +7,8 @@ use mathlib.Core.List.{List, [], _∷_}
 use lib.Dec.{leb}
 use lib.Ieee as Ieee
 use borrow.Author.Tests.{leb-true}
-use Rattle.seq.specs.Lists.{all}
-use Rattle.seq.specs.Table.{entries, entriesFrom}
-use Rattle.seq.specs.Fills.{test-at}
+use Rattle.seq.specs.Lists.{allOf, entries, entriesFrom}
+use Rattle.seq.proofs.Rows.{test-at}
 use Rattle.def.specs.Binary.{floorLog2}
 use Rattle.tbl.specs.DepthRows.{isGopSize, depthRule}
 use Rattle.tbl.proofs.Rows.{each-length}
@@ -31,14 +30,14 @@ pub record Length (n : ℕ) : Type 0 where
   pub short : floorLog2 n ≤ maxLog2
   pub last-depth : depthOf (n - 1) ≡ floorLog2 n + 1
   -- no place has a layer above the logarithm
-  pub layers-fit : all (λ k. leb (layerAt (k + 1)) (floorLog2 n)) (entries (λ k. k) (n - 1)) ≡ true
+  pub layers-fit : allOf (λ k. leb (layerAt (k + 1)) (floorLog2 n)) (entries (λ k. k) (n - 1)) ≡ true
   -- the places' layers are those of the full run
   pub full : layersAt 1 (n - 1) ≡ fullLayers (floorLog2 n)
   -- a multiple has its whole group below 2^31
   pub room : (p : ℕ) → p % n ≡ 0 → p ≤ maxPoc → p + n ≤ maxPoc + 1
 
 pub a-length : (n : ℕ) → isGopSize n ≡ true → Length n
-unfolding floorLog2 depthRule Ieee.size Ieee.span Ieee.climb all entries entriesFrom layersFrom layersAt
+unfolding floorLog2 depthRule Ieee.size Ieee.span Ieee.climb allOf entries entriesFrom layersFrom layersAt
 a-length =
     each-length Length
     (record { above-one = omega arith; power = refl; short = omega arith; last-depth = refl; layers-fit = refl; full = refl; room = λ p m h. omega arith })

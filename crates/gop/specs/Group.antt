@@ -10,7 +10,7 @@ use Rattle.seq.specs.Lists.{Distinct, Once}
 use Rattle.def.specs.declared.{EvcPoc.EvcPoc, SliceType.SliceType}
 use Rattle.tbl.specs.DepthRows.{isGopSize}
 use Rattle.poc.specs.PictureNumber.{maxPoc}
-use Rattle.poc.specs.Distance.{Step, accepted, layerOf, AfterKey, Between, Apart}
+use Rattle.poc.specs.Distance.{Step, acceptedSteps, layerOf, AfterKey, Between, Apart}
 use Rattle.poc.specs.FullRun.{fullRun}
 use Rattle.gop.specs.declared.{PlanAnswer.PlanAnswer, Planning.Planning}
 use Rattle.gop.specs.Plan.{isKey, derivedPlan, plan}
@@ -60,8 +60,8 @@ pub record PlannedRun (L p : ℕ) (inter : SliceType) (first : Planning) (later 
   pub differ : Distinct (map plannedNumber (first ∷ later))
   pub within : (x : Planning) → List·Memᴰ x later → Between L p (plannedNumber x)
   pub each-once : (n : ℤ) → Between L p n → Once n (map plannedNumber later)
-  pub are : later ≡ map (planOf inter L) (accepted (first .poc) (fullRun L))
-  pub apart : Apart L p (accepted (first .poc) (fullRun L))
+  pub are : later ≡ map (planOf inter L) (acceptedSteps (first .poc) (fullRun L))
+  pub apart : Apart L p (acceptedSteps (first .poc) (fullRun L))
 
 -- The group that begins at p, on any record at all: the plan of p, and those of the counts behind it.
 abbrev pub firstOf : ℕ → ℕ → ℕ → ℕ → EvcPoc → Planning

@@ -7,7 +7,7 @@ use mathlib.Core.Bool.{Bool, true, false, cond}
 use mathlib.Core.List.{List}
 use lib.Dec.{ltb}
 use borrow.Author.Tests.{lt-ltb, le-ltb, ltb-true, ltb-false}
-use Rattle.seq.specs.Lists.{any, lowest}
+use Rattle.seq.specs.Lists.{anyOf, lowest}
 use Rattle.def.specs.State.{slots}
 use Rattle.keys.specs.Keys.{keyWanted}
 use Rattle.picman.specs.OnKeys.{keyDue, duePlace}
@@ -35,11 +35,11 @@ module _ (next : ℕ) (keys : List ℕ) where
   pub at-due : (i : ℕ) → first ≡ i → i < slots → i ≡ duePlace next keys
   at-due i e h = rw (e, lt-ltb i slots h) refl
 
-  pub at-end : (wanted : Bool) → slots ≤ first → any keyWanted keys ≡ wanted → past wanted ≡ duePlace next keys
+  pub at-end : (wanted : Bool) → slots ≤ first → anyOf keyWanted keys ≡ wanted → past wanted ≡ duePlace next keys
   at-end wanted h e = rw (le-ltb first slots h, e) refl
 
   by-first : {R : Type 0} → (first < slots → duePlace next keys ≡ first → R)
-      → (slots ≤ first → duePlace next keys ≡ past (any keyWanted keys) → R) → R
+      → (slots ≤ first → duePlace next keys ≡ past (anyOf keyWanted keys) → R) → R
   by-first {R} due none = go (ltb first slots) refl
     where
       go : (b : Bool) → ltb first slots ≡ b → R
@@ -47,10 +47,10 @@ module _ (next : ℕ) (keys : List ℕ) where
       go false e = none (ltb-false first slots e) (rw e refl)
 
   pub place-due : duePlace next keys < slots → (duePlace next keys ≡ first) × (first < slots)
-  place-due h = by-first (λ l e. (e, l)) (λ l e. absurd (past-not-below (any keyWanted keys) (rw e at h)))
+  place-due h = by-first (λ l e. (e, l)) (λ l e. absurd (past-not-below (anyOf keyWanted keys) (rw e at h)))
 
-  pub place-waits : duePlace next keys ≡ slots → (slots ≤ first) × (any keyWanted keys ≡ true)
-  place-waits p = by-first (λ l e. absurd (omega arith)) (λ l e. (l, past-waits (any keyWanted keys) (sym e ∙ p)))
+  pub place-waits : duePlace next keys ≡ slots → (slots ≤ first) × (anyOf keyWanted keys ≡ true)
+  place-waits p = by-first (λ l e. absurd (omega arith)) (λ l e. (l, past-waits (anyOf keyWanted keys) (sym e ∙ p)))
 
-  pub place-none : slots ≤ duePlace next keys → (duePlace next keys ≡ slots → ⊥) → (slots ≤ first) × (any keyWanted keys ≡ false)
-  place-none h n = by-first (λ l e. absurd (omega arith)) (λ l e. (l, past-none (any keyWanted keys) (λ p. n (e ∙ p))))
+  pub place-none : slots ≤ duePlace next keys → (duePlace next keys ≡ slots → ⊥) → (slots ≤ first) × (anyOf keyWanted keys ≡ false)
+  place-none h n = by-first (λ l e. absurd (omega arith)) (λ l e. (l, past-none (anyOf keyWanted keys) (λ p. n (e ∙ p))))

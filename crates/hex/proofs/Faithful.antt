@@ -10,8 +10,8 @@ use lib.Dec.{ltb, eqb}
 use lib.ListN.{length, take, drop, length-append, drop-of-length-le, take-append-drop}
 use lib.Seq.{take-at, drop-cons}
 use borrow.Author.Tests.{ltb-true, lt-ltb, eqb-true, eq-eqb}
-use Rattle.seq.specs.Lists.{all}
-use Rattle.seq.specs.All.{and-left, and-right, and-both}
+use Rattle.seq.specs.Lists.{allOf}
+use Rattle.seq.proofs.Tests.{and-left, and-right, and-both}
 use Rattle.hex.specs.Hex.{isDigit, isHex, bytesOf, digitsOf, sum8, checkByte}
 use Rattle.hex.specs.Frame.{AreBytes, withCheck, framed, isChecked, bodyOf, Kind, fromBytes, fromLine, lineOf, byteAt}
 use Rattle.hex.specs.Claims.{Lawful, LinesFaithful}
@@ -95,8 +95,8 @@ module _ {A : Type 0} (kind : Kind A) (Fits : A → Type 0) (lawful : Lawful kin
   one cs a e =
       let p = found (isHex cs) (fromBytes kind (bytesOf cs)) a e in
       let q = found (isChecked (bytesOf cs)) (kind .meaning (bodyOf (bytesOf cs))) a (p .1) in
-      let hex = and-left (all isDigit cs) (eqb (length cs % 2) 0) (p .0) in
-      let even = eqb-true (length cs % 2) 0 (and-right (all isDigit cs) (eqb (length cs % 2) 0) (p .0)) in
+      let hex = and-left (allOf isDigit cs) (eqb (length cs % 2) 0) (p .0) in
+      let even = eqb-true (length cs % 2) 0 (and-right (allOf isDigit cs) (eqb (length cs % 2) 0) (p .0)) in
       let h = hex-bytes cs hex in
       sym (hex-back cs hex even)
       ∙ ap digitsOf (checked-body (bytesOf cs) h (q .0))

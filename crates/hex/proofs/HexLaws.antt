@@ -11,7 +11,7 @@ use lib.Dec.{leb, ltb}
 use lib.ListN.{length, getD, drop}
 use lib.Seq.{drop-cons, length-take-le}
 use borrow.Author.Tests.{leb-true, le-leb, lt-leb, ltb-true, ltb-false, lt-ltb, le-ltb}
-use Rattle.seq.specs.Lists.{all}
+use Rattle.seq.specs.Lists.{allOf}
 use Rattle.hex.specs.Hex.{isDigit, digitValue, digitOf, bytesOf, digitsOf, sum8, checkByte}
 use Rattle.hex.specs.Frame.{AreBytes, bodyOf}
 
@@ -90,8 +90,8 @@ shown n h = by-ten (ltb n 10) refl
         rw e (d .0, d .1 ∙ omega arith)
 
 -- The digits of bytes are hex, and stand for those bytes.
-pub digits-hex : (bs : List ℕ) → AreBytes bs → all isDigit (digitsOf bs) ≡ true
-unfolding AreBytes all digitsOf
+pub digits-hex : (bs : List ℕ) → AreBytes bs → allOf isDigit (digitsOf bs) ≡ true
+unfolding AreBytes allOf digitsOf
 digits-hex [] h = refl
 digits-hex (b ∷ bs) h =
     let k = h .0 in
@@ -118,22 +118,22 @@ digit-back =
     (λ c h k. let d : digitOf (c - 48) ≡ 48 + (c - 48) = simp (lt-ltb (c - 48) 10 (omega arith)) in d ∙ omega arith)
     (λ c h k. let d : digitOf (c - 87) ≡ 87 + (c - 87) = simp (le-ltb (c - 87) 10 (omega arith)) in d ∙ omega arith)
 
-pub hex-bytes : (cs : List ℕ) → all isDigit cs ≡ true → AreBytes (bytesOf cs)
-unfolding AreBytes all bytesOf
+pub hex-bytes : (cs : List ℕ) → allOf isDigit cs ≡ true → AreBytes (bytesOf cs)
+unfolding AreBytes allOf bytesOf
 hex-bytes [] e = tt
 hex-bytes (c ∷ []) e = tt
 hex-bytes (h ∷ l ∷ cs) e =
-    let p = both (isDigit h) (isDigit l && all isDigit cs) e in
-    let q = both (isDigit l) (all isDigit cs) (p .1) in
+    let p = both (isDigit h) (isDigit l && allOf isDigit cs) e in
+    let q = both (isDigit l) (allOf isDigit cs) (p .1) in
     (omega (arith, digit-fits h (p .0), digit-fits l (q .0)), hex-bytes cs (q .1))
 
-pub hex-back : (cs : List ℕ) → all isDigit cs ≡ true → length cs % 2 ≡ 0 → digitsOf (bytesOf cs) ≡ cs
-unfolding all bytesOf digitsOf
+pub hex-back : (cs : List ℕ) → allOf isDigit cs ≡ true → length cs % 2 ≡ 0 → digitsOf (bytesOf cs) ≡ cs
+unfolding allOf bytesOf digitsOf
 hex-back [] e f = refl
 hex-back (c ∷ []) e f = absurd (omega arith)
 hex-back (h ∷ l ∷ cs) e f =
-    let p = both (isDigit h) (isDigit l && all isDigit cs) e in
-    let q = both (isDigit l) (all isDigit cs) (p .1) in
+    let p = both (isDigit h) (isDigit l && allOf isDigit cs) e in
+    let q = both (isDigit l) (allOf isDigit cs) (p .1) in
     let hf = digit-fits h (p .0) in
     let lf = digit-fits l (q .0) in
     let n = 16 * digitValue h + digitValue l in

@@ -8,7 +8,7 @@ use mathlib.Core.Bool.{Bool, true, false, _&&_}
 use mathlib.Core.List.{List, [], _∷_, _++_}
 use lib.ListN.{length, getD, take, drop, set, length-set}
 use lib.Seq.{drop-cons, take-suc-set, append-snoc}
-use Rattle.seq.specs.Lists.{all}
+use Rattle.seq.specs.Lists.{allOf}
 use Rattle.hex.specs.Hex.{isDigit, digitValue, digitOf, bytesOf, digitsOf}
 
 -- Two elements from place 2 i on.
@@ -23,16 +23,16 @@ drop-pair cs i h =
 
 -- What a pair of digits adds, at the front of the characters left.
 pub pair-hex : (cs : List ℕ) (i : ℕ) → 2 * i + 1 < length cs
-    → all isDigit (drop (2 * i) cs) ≡ (isDigit (getD cs (2 * i) 0) && (isDigit (getD cs (2 * i + 1) 0) && all isDigit (drop (2 * (i + 1)) cs)))
-unfolding all
-pair-hex cs i h = ap (all isDigit) (drop-pair cs i h)
+    → allOf isDigit (drop (2 * i) cs) ≡ (isDigit (getD cs (2 * i) 0) && (isDigit (getD cs (2 * i + 1) 0) && allOf isDigit (drop (2 * (i + 1)) cs)))
+unfolding allOf
+pair-hex cs i h = ap (allOf isDigit) (drop-pair cs i h)
 
 not-both : (h l rest : Bool) → (h && l) ≡ false → (h && (l && rest)) ≡ false
 not-both false l rest e = refl
 not-both true l rest e = simp e
 
 -- A pair that is not two digits, anywhere among the characters left.
-pub not-hex : (cs : List ℕ) (i : ℕ) → 2 * i + 1 < length cs → (isDigit (getD cs (2 * i) 0) && isDigit (getD cs (2 * i + 1) 0)) ≡ false → all isDigit (drop (2 * i) cs) ≡ false
+pub not-hex : (cs : List ℕ) (i : ℕ) → 2 * i + 1 < length cs → (isDigit (getD cs (2 * i) 0) && isDigit (getD cs (2 * i + 1) 0)) ≡ false → allOf isDigit (drop (2 * i) cs) ≡ false
 not-hex cs i h e = pair-hex cs i h ∙ not-both (isDigit (getD cs (2 * i) 0)) (isDigit (getD cs (2 * i + 1) 0)) _ e
 
 pub pair-bytes : (cs bs : List ℕ) (i b : ℕ) → 2 * i + 1 < length cs → i < length bs → b ≡ 16 * digitValue (getD cs (2 * i) 0) + digitValue (getD cs (2 * i + 1) 0)

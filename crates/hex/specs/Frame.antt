@@ -6,17 +6,14 @@ use mathlib.Core.Bool.{Bool, cond, _&&_}
 use mathlib.Core.List.{List, [], _∷_, _++_}
 use mathlib.Core.Option.{Option, none}
 use lib.Dec.{ltb, eqb}
-use lib.ListN.{length, getD, take}
+use lib.ListN.{length, take}
 use Rattle.hex.specs.Hex.{isHex, bytesOf, digitsOf, sum8, checkByte, word}
+pub use Rattle.def.specs.Word.{byteAt}
 
 -- Numbers that a byte holds.
 unfoldable pub AreBytes : List ℕ → Type 0
 AreBytes [] = Unit {0}
 AreBytes (b ∷ bs) = (b < 256) × AreBytes bs
-
--- The byte at a place of a body, and the number that four of them stand for.
-abbrev pub byteAt : List ℕ → ℕ → ℕ
-byteAt bs i = getD bs i 0
 
 abbrev pub wordAt : List ℕ → ℕ → ℕ → ℕ → ℕ → ℕ
 wordAt bs i j k l = word (byteAt bs i) (byteAt bs j) (byteAt bs k) (byteAt bs l)

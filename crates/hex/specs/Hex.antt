@@ -5,8 +5,7 @@ use mathlib.Core.Bool.{Bool, cond, _&&_, _||_}
 use mathlib.Core.List.{List, [], _∷_}
 use lib.Dec.{leb, ltb, eqb}
 use lib.ListN.{length}
-use Rattle.seq.specs.Lists.{all}
-use Rattle.seq.specs.Table.{entries}
+use Rattle.seq.specs.Lists.{allOf, entries}
 pub use Rattle.def.specs.Word.{word, wordBytes}
 
 -- 0 to 9 and a to f, as characters: lower case only.
@@ -31,7 +30,7 @@ digitsOf [] = []
 digitsOf (b ∷ bs) = digitOf (b / 16) ∷ digitOf (b % 16) ∷ digitsOf bs
 
 abbrev pub isHex : List ℕ → Bool
-isHex cs = all isDigit cs && eqb (length cs % 2) 0
+isHex cs = allOf isDigit cs && eqb (length cs % 2) 0
 
 -- The sum of bytes, wrapping at 256.
 unfoldable pub sum8 : List ℕ → ℕ

@@ -10,22 +10,22 @@ use lib.Dec.{leb, eqb}
 use lib.ListN.{length, getD, set}
 use mir.Val.{boolByte}
 use borrow.Author.Tests.{ne-eqb}
-use Rattle.seq.specs.Lists.{count, lowest, removeAt}
-use Rattle.seq.specs.All.{and-left}
-use Rattle.seq.specs.Lowest.{lowest-passes, any-found}
-use Rattle.seq.specs.Changes.{getD-mem, remove-reordered, count-last}
-use Rattle.seq.specs.Tallies.{count-set}
+use Rattle.seq.specs.Lists.{countIf, lowest, removeAt}
+use Rattle.seq.proofs.Tests.{and-left, count-set}
+use Rattle.seq.proofs.Walks.{lowest-passes, any-found}
+use Rattle.seq.proofs.Orders.{remove-reordered, count-last}
+use Rattle.seq.proofs.Members.{mem-at}
 use Rattle.def.specs.declared.{Slot.Slot, EvcPm.EvcPm, EvcRefP.EvcRefP, PutCall.PutCall, RefpCall.RefpCall, PmResult.PmResult, Answer.Answer, Refusal.Refusal}
 use Rattle.def.specs.Refusals.{refusalNumber}
 use Rattle.def.proofs.Refusals.{refusals-in-use}
-use Rattle.def.specs.State.{slots, newPic, emptySlot, noSlot, held, isWanted, isIdle, unmarked, handedOver}
+use Rattle.def.specs.State.{slots, newPic, emptySlot, noSlot, occupiedBy, isWanted, isIdle, unmarked, handedOver}
 use Rattle.whole.specs.Whole.{heldBuffers}
 use Rattle.refp.specs.Lists.{lists}
 use Rattle.refp.proofs.ListLaws.{only-counts}
 use Rattle.picman.specs.Get.{get}
 use Rattle.picman.proofs.GetLaws as get-laws
 use Rattle.picman.proofs.GetKeeps.{fresh-not-held}
-use Rattle.picman.specs.Put.{put, remarked, listed, taken, placeFor}
+use Rattle.picman.specs.Put.{put, remarked, listNumbers, taken, placeFor}
 use Rattle.picman.proofs.PutLaws as put-laws
 use Rattle.picman.proofs.Keeps.{remarks, remarked-whole, remarked-size, remarked-lease}
 use Rattle.picman.proofs.Places.{place-empty}
@@ -45,11 +45,11 @@ Blind p = (s : Slot) → p (unmarked s) ≡ p s
 
 -- The slots ys are the slots xs, up to order and marks.
 abbrev pub SameSlots : List Slot → List Slot → Type 0
-SameSlots xs ys = (p : Slot → Bool) → Blind p → count p ys ≡ count p xs
+SameSlots xs ys = (p : Slot → Bool) → Blind p → countIf p ys ≡ countIf p xs
 
 -- The same, with one slot that became another.
 abbrev pub Swapped : Slot → Slot → List Slot → List Slot → Type 0
-Swapped old new xs ys = (p : Slot → Bool) → Blind p → count p ys + boolByte (p old) ≡ count p xs + boolByte (p new)
+Swapped old new xs ys = (p : Slot → Bool) → Blind p → countIf p ys + boolByte (p old) ≡ countIf p xs + boolByte (p new)
 
 -- A refusal's status is not 0.
 pub refused-status : (why : Refusal) → eqb (refusalNumber why) 0 ≡ false
@@ -61,7 +61,7 @@ pub data GetActs (pm : EvcPm) : Answer → EvcPm → Type 0 where
   turned-down : (why : Refusal) → GetActs pm (Answer.Refused why) pm
   took-idle : {q : EvcPm} (s : Slot) → isIdle s ≡ true → List·Memᴰ s (pm .pic) → pm .«pic_lease» .present ≡ false → q .«pic_lease» ≡ s
       → Swapped s emptySlot (pm .pic) (q .pic) → GetActs pm (Answer.Picture (s .buf) (s .pic .poc)) q
-  made-new : {q : EvcPm} (b : ℕ) → (List·Memᴰ b (heldBuffers pm) → ⊥) → pm .«pic_lease» .present ≡ false → q .«pic_lease» ≡ held newPic b
+  made-new : {q : EvcPm} (b : ℕ) → (List·Memᴰ b (heldBuffers pm) → ⊥) → pm .«pic_lease» .present ≡ false → q .«pic_lease» ≡ occupiedBy newPic b
       → q .pic ≡ pm .pic → GetActs pm (Answer.Picture b 0) q
 
 pub get-acts : (pm : EvcPm) → length (pm .pic) ≡ slots → GetActs pm (get pm .answer) (get pm .pm)
@@ -77,7 +77,7 @@ get-acts pm size = pick (get-laws.gets pm)
         let left = removeAt emptySlot i (pm .pic) in
         let swapped : Swapped taken emptySlot (pm .pic) left =
         λ p blind. omega (arith, remove-reordered noSlot emptySlot i (pm .pic) found p, count-last p left taken, count-last p (pm .pic) emptySlot) in
-        took-idle taken (lowest-passes noSlot isIdle (pm .pic) found) (getD-mem noSlot (pm .pic) i found) l refl swapped
+        took-idle taken (lowest-passes noSlot isIdle (pm .pic) found) (mem-at (pm .pic) i noSlot found) l refl swapped
     pick (get-laws.full w l h f) = turned-down _
     pick (get-laws.made w l h f) = made-new _ (fresh-not-held pm w size l f) l refl refl
 
@@ -86,7 +86,7 @@ get-acts pm size = pick (get-laws.gets pm)
 -- the content that a put of the picture leased in x gives it
 abbrev pub returns : List EvcRefP → PutCall → EvcPm → Content
 returns refp c x =
-    record { buf = x .«pic_lease» .buf; poc = c .poc; layer = c .«temporal_id»; numbers = listed (x .«num_refp_0») refp (x .«pic_lease» .pic) }
+    record { buf = x .«pic_lease» .buf; poc = c .poc; layer = c .«temporal_id»; numbers = listNumbers (x .«num_refp_0») refp (x .«pic_lease» .pic) }
 
 pub data PutActs (pm : EvcPm) (refp : List EvcRefP) (c : PutCall) : Answer → EvcPm → Type 0 where
   turned-down : (why : Refusal) → PutActs pm refp c (Answer.Refused why) pm
@@ -111,11 +111,11 @@ put-acts pm refp c size = pick (put-laws.puts pm refp c)
         let now = remarks c pm w size in
         let size-now = remarked-size c pm w size in
         let lease = remarked-lease c pm w size in
-        let numbers = listed (q .«num_refp_0») refp (q .«pic_lease» .pic) in
+        let numbers = listNumbers (q .«num_refp_0») refp (q .«pic_lease» .pic) in
         let place = place-empty c numbers q (remarked-whole c pm w size) size-now (ap (λ (s : Slot). s .present) lease ∙ l) o in
         let in-store = place .0 in
         let old = getD (q .pic) (placeFor c q) noSlot in
-        let new = held (taken c numbers) (q .«pic_lease» .buf) in
+        let new = occupiedBy (taken c numbers) (q .«pic_lease» .buf) in
         let swapped : Swapped old new (pm .pic) (set (q .pic) (placeFor c q) new) =
         λ r blind. omega (arith, count-set r noSlot (q .pic) (placeFor c q) new (omega arith), now .kept .as-many r blind) in
         stored old new p l refl (place .1) refl (ap (returns refp c) (now .counted)) refl swapped

@@ -7,11 +7,9 @@ use mathlib.Core.Bool as Bool
 use mathlib.Core.Logic.{⊎-elim}
 use mathlib.Core.List.{List, [], _∷_, List·Memᴰ, Memᴰ·cast}
 use native.Mathlib.Omega.{arith}
-use Rattle.seq.specs.Lists.{count, select}
-use Rattle.seq.specs.All.{count-some}
-use Rattle.seq.specs.Counts.{count-none}
-use Rattle.seq.specs.Members.{find-mem}
-use Rattle.seq.specs.Reorder.{Reordered}
+use Rattle.seq.specs.Lists.{countIf, select, Reordered}
+use Rattle.seq.proofs.Tests.{count-some, count-none}
+use Rattle.seq.proofs.Members.{find-mem}
 
 -- a decision as a test
 abbrev says : {P : Type 0} → Dec P → Bool
@@ -28,15 +26,15 @@ says-no (no f) g = refl
 
 module _ {A : Type 0} where
   -- of the elements that pass p, those that pass q
-  pub count-select : (p q : A → Bool) (xs : List A) → count q (select p xs) ≡ count (λ x. p x && q x) xs
-  unfolding count select
+  pub count-select : (p q : A → Bool) (xs : List A) → countIf q (select p xs) ≡ countIf (λ x. p x && q x) xs
+  unfolding countIf select
   count-select p q [] = refl
   count-select p q (x ∷ xs) = pick (p x) (count-select p q xs)
     where
       rest : ℕ
-      rest = count (λ y. p y && q y) xs
+      rest = countIf (λ y. p y && q y) xs
 
-      pick : (b : Bool) → count q (select p xs) ≡ rest → count q (cond b (x ∷ select p xs) (select p xs)) ≡ cond (b && q x) (suc rest) rest
+      pick : (b : Bool) → countIf q (select p xs) ≡ rest → countIf q (cond b (x ∷ select p xs) (select p xs)) ≡ cond (b && q x) (suc rest) rest
       pick true e = rw e
       pick false e = e
 

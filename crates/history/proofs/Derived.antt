@@ -13,16 +13,16 @@ use lib.Pow.{pow-mono}
 use lib.Signed.{mag}
 use borrow.Author.Tests.{ltb-true, ltb-false}
 use Rattle.seq.specs.Lists.{select, Distinct}
-use Rattle.seq.specs.Members.{mem-select}
-use Rattle.seq.specs.Distinct.{distinct-by}
-use Rattle.seq.specs.Often.{fewer-distinct}
+use Rattle.seq.proofs.Members.{mem-select}
+use Rattle.seq.proofs.Distinct.{distinct-by, fewer-distinct}
 use Rattle.def.specs.declared.EvcPoc.{EvcPoc}
 use Rattle.def.specs.declared.Refusal.the-variants.{NumberTooHigh, BadLayer, BadRecord}
-use Rattle.def.specs.Word.{twosComplement, signedOf, signed-of-complement}
+use Rattle.def.specs.Word.{twosComplement, signedOf}
+use Rattle.def.proofs.WordLaws.{signed-of-complement}
 use Rattle.poc.specs.declared.{PocAnswer.PocAnswer, Derivation.Derivation}
-use Rattle.poc.specs.PictureNumber.{maxPoc, maxLog2, settled, keyPicture, otherPicture, refused, badRecord, nextOffset, nextPrevious, offsetFrom, number, recordOf, derive}
+use Rattle.poc.specs.PictureNumber.{maxPoc, maxLog2, settled, keyPicture, otherPicture, derivationRefused, badRecord, nextOffset, nextPrevious, offsetFrom, number, recordOf, derive}
 use Rattle.poc.specs.Distance as poc
-use Rattle.poc.specs.Distance.{run, accepted, numberOf}
+use Rattle.poc.specs.Distance.{run, acceptedSteps, numberOf}
 use Rattle.poc.proofs.Clip.{clip-rule}
 use Rattle.line.specs.declared.{Call.Call, Line.Line}
 use Rattle.machine.specs.declared.Machine.{Machine}
@@ -37,8 +37,8 @@ use Rattle.history.proofs.Files.{files-differ}
 abbrev wordOf : poc.Step → ℕ
 wordOf s = twosComplement (numberOf s)
 
-derived-shown : (m : Machine) (ls : List Line) → derivedNumbers (turns m ls) ≡ map wordOf (accepted (m .poc) (derivations ls))
-unfolding turns flatMap stepLine step accepted run select
+derived-shown : (m : Machine) (ls : List Line) → derivedNumbers (turns m ls) ≡ map wordOf (acceptedSteps (m .poc) (derivations ls))
+unfolding turns flatMap stepLine step acceptedSteps run select
 derived-shown m [] = refl
 derived-shown m (Line.Bad ∷ ls) = derived-shown m ls
 derived-shown m (Line.Good (Call.Init size refs) ∷ ls) = derived-shown (step m (Call.Init size refs) .machine) ls
@@ -53,7 +53,7 @@ derived-shown m (Line.Good (Call.PocDerivation L t) ∷ ls) =
     d = derive L t (m .poc)
 
     later : List poc.Step
-    later = accepted (d .poc) (derivations ls)
+    later = acceptedSteps (d .poc) (derivations ls)
 
     answered : PocAnswer → poc.Step
     answered a = record { call = record { log2 = L; layer = t }; answer = a; after = d .poc }
@@ -82,13 +82,13 @@ module _ (c : poc.Call) (r : EvcPoc) where
   settled-fits (pos n) prev k small = pick (ltb maxPoc n) refl (ltb maxPoc prev)
     where
       pick : (b : Bool) → ltb maxPoc n ≡ b → (h : Bool)
-          → Fits (cond (b || h) (refused NumberTooHigh r) (record { answer = PocAnswer.Derived (record { 0 = pos n }); poc = recordOf (pos n) prev k }) .answer)
+          → Fits (cond (b || h) (derivationRefused NumberTooHigh r) (record { answer = PocAnswer.Derived (record { 0 = pos n }); poc = recordOf (pos n) prev k }) .answer)
       pick true t h = omega arith
       pick false t true = omega arith
       pick false t false = let l = ltb-false maxPoc n t in omega arith
   settled-fits (negsuc n) prev k small = pick (ltb maxPoc prev)
     where
-      pick : (h : Bool) → Fits (cond h (refused NumberTooHigh r) (record { answer = PocAnswer.Derived (record { 0 = negsuc n }); poc = recordOf (negsuc n) prev k }) .answer)
+      pick : (h : Bool) → Fits (cond h (derivationRefused NumberTooHigh r) (record { answer = PocAnswer.Derived (record { 0 = negsuc n }); poc = recordOf (negsuc n) prev k }) .answer)
       pick true = omega arith
       pick false = small n refl
 
@@ -103,7 +103,7 @@ module _ (c : poc.Call) (r : EvcPoc) where
       t = c .layer
 
       pick : (long : Bool) → ltb maxLog2 L ≡ long → (high bad key : Bool)
-          → Fits (cond (long || high) (refused BadLayer r) (cond bad (refused BadRecord r) (cond key (keyPicture L r) (otherPicture L t r))) .answer)
+          → Fits (cond (long || high) (derivationRefused BadLayer r) (cond bad (derivationRefused BadRecord r) (cond key (keyPicture L r) (otherPicture L t r))) .answer)
       pick true e high bad key = omega arith
       pick false e true bad key = omega arith
       pick false e false true key = omega arith
@@ -116,8 +116,8 @@ module _ (c : poc.Call) (r : EvcPoc) where
           settled-fits (number (nextPrevious L r) L t d) (nextPrevious L r) d (λ n q. let l = sub-low _ (2 ^ L) n q in omega arith)
 
 -- so two that show one word are one number
-same-word : (r : EvcPoc) (cs : List poc.Call) {s : poc.Step} → List·Memᴰ s (accepted r cs) → signedOf (wordOf s) ≡ numberOf s
-unfolding accepted run
+same-word : (r : EvcPoc) (cs : List poc.Call) {s : poc.Step} → List·Memᴰ s (acceptedSteps r cs) → signedOf (wordOf s) ≡ numberOf s
+unfolding acceptedSteps run
 same-word r cs {s} m = signed-of-complement (numberOf s) (of-run r cs (mem-select poc.isAccepted (run r cs) m .0))
   where
     of-run : (r : EvcPoc) (cs : List poc.Call) → List·Memᴰ s (run r cs) → mag (numberOf s) < 2 ^ 31
@@ -133,7 +133,7 @@ derived-differ lines clip =
     let r = newMachine .poc in
     let cs = derivations lines in
     subst (λ (l : List ℕ). Distinct l) (sym (derived-shown newMachine lines))
-    (distinct-by numberOf wordOf (accepted r cs) (λ a b m n e. sym (same-word r cs m) ∙ ap signedOf e ∙ same-word r cs n) (clip-rule r cs clip))
+    (distinct-by numberOf wordOf (acceptedSteps r cs) (λ a b m n e. sym (same-word r cs m) ∙ ap signedOf e ∙ same-word r cs n) (clip-rule r cs clip))
 
 pub clip-files-differ : ClipFilesDiffer
 clip-files-differ lines clip few =

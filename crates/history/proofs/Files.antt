@@ -8,10 +8,9 @@ use mathlib.Core.List.{List, [], _∷_, _++_, map, flatMap}
 use native.Mathlib.Omega.{arith}
 use lib.Dec.{eqb}
 use mir.Val.{boolByte}
-use Rattle.seq.specs.Lists.{count, select}
-use Rattle.seq.specs.All.{count-append}
-use Rattle.seq.specs.Often.{count-select-map, fewer-distinct}
-use Rattle.seq.specs.Tallies.{count-one}
+use Rattle.seq.specs.Lists.{countIf, select}
+use Rattle.seq.proofs.Tests.{count-append, count-one}
+use Rattle.seq.proofs.Distinct.{count-select-map, fewer-distinct}
 use Rattle.def.specs.declared.{Slot.Slot, EvcPm.EvcPm, Answer.Answer}
 use Rattle.def.specs.State.{isWanted, isIdle, handedOver}
 use Rattle.line.specs.declared.{Call.Call, Line.Line, Reply.Reply}
@@ -36,7 +35,7 @@ module _ (n : ℕ) where
   blind : Blind waits
   blind s = refl
 
-  waiting-passing : (m : Machine) → count (eqb n) (waiting m) ≡ count waits (m .pm .pic)
+  waiting-passing : (m : Machine) → countIf (eqb n) (waiting m) ≡ countIf waits (m .pm .pic)
   waiting-passing m = count-select-map isWanted (λ (s : Slot). s .pic .poc) (eqb n) (m .pm .pic)
 
   -- an idle picture, one that is not there, and one that was handed over wait no more
@@ -62,18 +61,18 @@ module _ (n : ℕ) where
   wanted-waits : (s : Slot) → isWanted s ≡ true → waits s ≡ eqb n (s .pic .poc)
   wanted-waits s e = rw e
 
-  if-so : (b : Bool) (k : ℕ) → count (eqb n) (ifSo b k) ≡ boolByte (b && eqb n k)
-  unfolding count
+  if-so : (b : Bool) (k : ℕ) → countIf (eqb n) (ifSo b k) ≡ boolByte (b && eqb n k)
+  unfolding countIf
   if-so true k = let o = count-one (eqb n) k [] in omega arith
   if-so false k = refl
 
-  none : count (eqb n) [] ≡ 0
-  unfolding count
+  none : countIf (eqb n) [] ≡ 0
+  unfolding countIf
   none = refl
 
   -- What a line with this reply does: what was put goes to those that wait, and what was handed over comes from them.
   abbrev Flows : List Slot → List Slot → Line → Reply → Type 0
-  Flows xs ys l r = count (eqb n) (putNumber l r) + count waits xs ≡ count (eqb n) (outNumber l r) + count waits ys
+  Flows xs ys l r = countIf (eqb n) (putNumber l r) + countIf waits xs ≡ countIf (eqb n) (outNumber l r) + countIf waits ys
 
   init-flows : (size refs : ℕ) {pm q : EvcPm} {a : Answer} → InitActs pm a q → Flows (pm .pic) (q .pic) (Line.Good (Call.Init size refs)) (replyOf 1 a)
   init-flows size refs (acts.turned-down why) = refl
@@ -116,7 +115,7 @@ module _ (n : ℕ) where
   -- ---- line after line
 
   run-flows : (m : Machine) (ls : List Line) → Sound m
-      → count (eqb n) (putNumbers (turns m ls)) + count waits (m .pm .pic) ≡ count (eqb n) (outNumbers (turns m ls)) + count waits (leaves m ls .pm .pic)
+      → countIf (eqb n) (putNumbers (turns m ls)) + countIf waits (m .pm .pic) ≡ countIf (eqb n) (outNumbers (turns m ls)) + countIf waits (leaves m ls .pm .pic)
   unfolding turns leaves flatMap
   run-flows m [] s = refl
   run-flows m (l ∷ ls) s =
@@ -131,9 +130,9 @@ module _ (n : ℕ) where
       )
 
 pub one-picture-one-file : OnePictureOneFile
-unfolding count select
+unfolding countIf select
 one-picture-one-file lines n =
-    let nothing-waits : count (waits n) (newMachine .pm .pic) ≡ 0 = refl in
+    let nothing-waits : countIf (waits n) (newMachine .pm .pic) ≡ 0 = refl in
     omega (arith, run-flows n newMachine lines new-sound, waiting-passing n (leaves newMachine lines))
 
 pub files-differ : FilesDiffer

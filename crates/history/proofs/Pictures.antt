@@ -4,17 +4,16 @@ use Prim.Native.Nat.{ℕ, _+_}
 use mathlib.Core.Path.{_≡_, refl, sym, ap, _∙_}
 use mathlib.Core.Bool.{Bool, false, _&&_}
 use native.Mathlib.Decide.{ℕ-discrete}
-use mathlib.Core.List.{List, [], _∷_, _++_, List·Memᴰ·append-cases, Memᴰ·append-left, List-discrete}
+use mathlib.Core.List.{List, [], _∷_, _++_, List·Memᴰ·append-cases, Memᴰ·append-left, List-discrete, Memᴰ·map}
 use native.Mathlib.Omega.{arith}
 use mir.Val.{boolByte}
-use Rattle.seq.specs.Lists.{count, select}
-use Rattle.seq.specs.All.{and-left, count-append, mem-any, not-any}
-use Rattle.seq.specs.Changes.{count-last}
-use Rattle.seq.specs.Commute.{map-count}
-use Rattle.seq.specs.Members.{mem-map, select-mem}
-use Rattle.seq.specs.Tallies.{count-one}
+use Rattle.seq.specs.Lists.{countIf, select}
+use Rattle.seq.proofs.Tests.{and-left, count-append, mem-any, not-any, count-one}
+use Rattle.seq.proofs.Orders.{count-last}
+use Rattle.seq.proofs.Maps.{map-count}
+use Rattle.seq.proofs.Members.{select-mem}
 use Rattle.def.specs.declared.{Slot.Slot, EvcPm.EvcPm, Answer.Answer}
-use Rattle.def.specs.State.{newPic, held, isPresent, bufferOf}
+use Rattle.def.specs.State.{newPic, occupiedBy, isPresent, bufferOf}
 use Rattle.whole.specs.Whole.{leases, places, heldBuffers}
 use Rattle.line.specs.declared.{Call.Call}
 use Rattle.line.specs.Answers.{replyOf}
@@ -32,14 +31,14 @@ module _ (p : Content → Bool) where
   abbrev holding : Slot → Bool
   holding s = s .present && p (contentOf s)
 
-  passing : (xs : List Slot) → count p (contents xs) ≡ count holding xs
+  passing : (xs : List Slot) → countIf p (contents xs) ≡ countIf holding xs
   passing xs = map-count contentOf p (select isPresent xs) ∙ count-select isPresent (λ s. p (contentOf s)) xs
 
-  state-passing : (pm : EvcPm) → count p (heldContents pm) ≡ count holding (pm .pic) + boolByte (holding (pm .«pic_lease»))
+  state-passing : (pm : EvcPm) → countIf p (heldContents pm) ≡ countIf holding (pm .pic) + boolByte (holding (pm .«pic_lease»))
   state-passing pm = passing (places pm) ∙ count-last holding (pm .pic) (pm .«pic_lease»)
 
-  lease-passing : (pm : EvcPm) → count p (contents (leases pm)) ≡ boolByte (holding (pm .«pic_lease»))
-  unfolding count
+  lease-passing : (pm : EvcPm) → countIf p (contents (leases pm)) ≡ boolByte (holding (pm .«pic_lease»))
+  unfolding countIf
   lease-passing pm = let e = passing (leases pm) in let o = count-one holding (pm .«pic_lease») [] in omega arith
 
   absent : (s : Slot) → s .present ≡ false → boolByte (holding s) ≡ 0
@@ -51,19 +50,19 @@ module _ (p : Content → Bool) where
   blind : Blind holding
   blind s = refl
 
-  none : count p [] ≡ 0
-  unfolding count
+  none : countIf p [] ≡ 0
+  unfolding countIf
   none = refl
 
-  one : (x : Content) → count p (x ∷ []) ≡ boolByte (p x)
-  unfolding count
+  one : (x : Content) → countIf p (x ∷ []) ≡ boolByte (p x)
+  unfolding countIf
   one x = let o = count-one p x [] in omega arith
 
   -- an exchange, part by part
   module _ (pm q : EvcPm) (e : Exchange) where
-    balanced : count holding (q .pic) + boolByte (holding (q .«pic_lease»)) + count p (e .gone)
-        ≡ count holding (pm .pic) + boolByte (holding (pm .«pic_lease»)) + count p (e .come)
-        → count p (heldContents q ++ e .gone) ≡ count p (heldContents pm ++ e .come)
+    balanced : countIf holding (q .pic) + boolByte (holding (q .«pic_lease»)) + countIf p (e .gone)
+        ≡ countIf holding (pm .pic) + boolByte (holding (pm .«pic_lease»)) + countIf p (e .come)
+        → countIf p (heldContents q ++ e .gone) ≡ countIf p (heldContents pm ++ e .come)
     balanced h = omega (arith, count-append p (heldContents q) (e .gone), count-append p (heldContents pm) (e .come), state-passing q, state-passing pm)
 
 -- the same slots and lease hold the same
@@ -83,17 +82,17 @@ module _ (m : Machine) where
   init-pictures size refs (acts.turned-down why) = rw (refused-status why) (λ p. refl)
   init-pictures size refs (acts.dropped {q = q} l s) = λ p.
       balanced p (m .pm) q (dropsLease m)
-      (omega (arith, none p, lease-passing p (m .pm), ap (count (holding p)) s, same-slot p l))
+      (omega (arith, none p, lease-passing p (m .pm), ap (countIf (holding p)) s, same-slot p l))
 
   get-pictures : {a : Answer} {q : EvcPm} → GetActs (m .pm) a q → Exchanged before (exchange m Call.GetEmptyPic (replyOf 2 a)) (heldContents q)
   get-pictures (acts.turned-down why) = rw (refused-status why) (λ p. refl)
   get-pictures (acts.took-idle {q = q} s idle mem free l swap) =
-      rw (mem-any (heldBuffers (m .pm)) (mem-map bufferOf (select-mem isPresent (places (m .pm)) (Memᴰ·append-left (leases (m .pm)) mem) (and-left (s .present) _ idle))))
+      rw (mem-any (heldBuffers (m .pm)) (Memᴰ·map bufferOf (select-mem isPresent (places (m .pm)) (Memᴰ·append-left (leases (m .pm)) mem) (and-left (s .present) _ idle))))
       (λ p. balanced p (m .pm) q nothing (omega (arith, none p, absent p lease free, same-slot p l, swap (holding p) (blind p))))
   get-pictures (acts.made-new {q = q} b new free l s) =
       rw (not-any b (heldBuffers (m .pm)) new)
       (λ p. balanced p (m .pm) q (makes b)
-      (omega (arith, none p, one p (contentOf (held newPic b)), absent p lease free, same-slot p l, ap (count (holding p)) s)))
+      (omega (arith, none p, one p (contentOf (occupiedBy newPic b)), absent p lease free, same-slot p l, ap (countIf (holding p)) s)))
 
   put-pictures : (flags poc tid gap : ℕ) {a : Answer} {q : EvcPm} → PutActs (m .pm) (m .refp) (putCallOf flags poc tid gap) a q
       → Exchanged before (exchange m (Call.PutPic flags poc tid gap) (replyOf 3 a)) (heldContents q)

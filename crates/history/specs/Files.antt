@@ -6,7 +6,7 @@ use mathlib.Core.Path.{_≡_}
 use mathlib.Core.Bool.{Bool, cond, _&&_}
 use mathlib.Core.List.{List, [], _∷_, map, flatMap}
 use lib.Dec.{eqb}
-use Rattle.seq.specs.Lists.{count, select, Distinct}
+use Rattle.seq.specs.Lists.{countIf, select, Distinct}
 use Rattle.def.specs.declared.Slot.{Slot}
 use Rattle.def.specs.State.{isWanted}
 use Rattle.poc.specs.Distance as poc
@@ -78,8 +78,8 @@ waiting m = map (λ (s : Slot). s .pic .poc) (select isWanted (m .pm .pic))
 abbrev pub OnePictureOneFile : Type 0
 OnePictureOneFile =
     (lines : List Line) (n : ℕ)
-    → count (eqb n) (putNumbers (turns newMachine lines))
-    ≡ count (eqb n) (outNumbers (turns newMachine lines)) + count (eqb n) (waiting (leaves newMachine lines))
+    → countIf (eqb n) (putNumbers (turns newMachine lines))
+    ≡ countIf (eqb n) (outNumbers (turns newMachine lines)) + countIf (eqb n) (waiting (leaves newMachine lines))
 
 -- So where the numbers put and wanted all differ, no number is handed over twice.
 abbrev pub FilesDiffer : Type 0
@@ -121,5 +121,5 @@ DerivedDiffer =
 abbrev pub ClipFilesDiffer : Type 0
 ClipFilesDiffer =
     (lines : List Line) → Clip (newMachine .poc) (derivations lines)
-    → ((n : ℕ) → count (eqb n) (putNumbers (turns newMachine lines)) ≤ count (eqb n) (derivedNumbers (turns newMachine lines)))
+    → ((n : ℕ) → countIf (eqb n) (putNumbers (turns newMachine lines)) ≤ countIf (eqb n) (derivedNumbers (turns newMachine lines)))
     → Distinct (outNumbers (turns newMachine lines))

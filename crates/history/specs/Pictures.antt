@@ -7,12 +7,11 @@ use mathlib.Core.Logic.{_⊎_}
 use mathlib.Core.List.{List, [], _∷_, _++_, map, List·Memᴰ}
 use lib.Dec.{eqb}
 use lib.ListN.{length}
-use Rattle.seq.specs.Lists.{any, select}
-use Rattle.seq.specs.Reorder.{Reordered}
+use Rattle.seq.specs.Lists.{anyOf, select, Reordered}
 use Rattle.def.specs.declared.{Slot.Slot, EvcPm.EvcPm, PutCall.PutCall}
-use Rattle.def.specs.State.{slots, newPic, held}
+use Rattle.def.specs.State.{slots, newPic, occupiedBy}
 use Rattle.whole.specs.Whole.{isPresent, leases, places, heldBuffers}
-use Rattle.picman.specs.Put.{listed}
+use Rattle.picman.specs.Put.{listNumbers}
 use Rattle.line.specs.declared.{Call.Call, Reply.Reply}
 use Rattle.machine.specs.declared.Machine.{Machine}
 use Rattle.machine.specs.Step.{putCallOf, step}
@@ -52,15 +51,15 @@ dropsLease m = record { gone = contents (leases (m .pm)); come = [] }
 
 -- A get takes a held picture as it is, or makes one: all zero, under a buffer number that no slot and no lease holds.
 abbrev pub makes : ℕ → Exchange
-makes b = record { gone = []; come = contentOf (held newPic b) ∷ [] }
+makes b = record { gone = []; come = contentOf (occupiedBy newPic b) ∷ [] }
 
 abbrev pub isMade : Machine → Reply → Bool
-isMade m r = not (any (eqb (r .buf)) (heldBuffers (m .pm)))
+isMade m r = not (anyOf (eqb (r .buf)) (heldBuffers (m .pm)))
 
 -- A put returns the leased picture under its buffer number. Its number and layer are the call's; its first list numbers are those of the
 -- forward list, and the rest stay.
 abbrev pub returned : Machine → PutCall → Slot → Content
-returned m c s = record { buf = s .buf; poc = c .poc; layer = c .«temporal_id»; numbers = listed (m .pm .«num_refp_0») (m .refp) (s .pic) }
+returned m c s = record { buf = s .buf; poc = c .poc; layer = c .«temporal_id»; numbers = listNumbers (m .pm .«num_refp_0») (m .refp) (s .pic) }
 
 abbrev pub returns : Machine → PutCall → Exchange
 returns m c = record { gone = contents (leases (m .pm)); come = map (returned m c) (leases (m .pm)) }

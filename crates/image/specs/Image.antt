@@ -6,8 +6,7 @@ use mathlib.Core.Bool.{Bool, _&&_}
 use mathlib.Core.List.{List, [], _∷_, _++_, flatMap}
 use lib.Dec.{leb, eqb}
 use lib.ListN.{length}
-use Rattle.seq.specs.Lists.{all}
-use Rattle.seq.specs.Table.{entries}
+use Rattle.seq.specs.Lists.{allOf, entries}
 use Rattle.def.specs.State.{slots, listPlaces}
 use Rattle.def.specs.Word.{wordBytes}
 use Rattle.def.specs.declared.Slot.{Slot}
@@ -17,27 +16,28 @@ use Rattle.def.specs.declared.EvcPoc.{EvcPoc}
 pub use Rattle.words.specs.Words.{wordWidth, flagByte, byteAt, flagAt}
 unfoldable pub use Rattle.words.specs.Words.{pocBytes, wordAt, pocAt}
 
--- Widths in bytes, and the places at which the parts begin.
+-- Widths in bytes, and the places at which the parts begin: a slot has its flag, buffer number, two flags and layer, its number and its list
+-- numbers, an entry its flag, buffer number, number and list numbers; the state's numbers take 11 bytes and the record 12.
 abbrev pub slotWidth : ℕ
-slotWidth = 93
+slotWidth = 5 + wordWidth * (1 + listPlaces)
 
 abbrev pub refpWidth : ℕ
-refpWidth = 90
+refpWidth = 2 + wordWidth * (1 + listPlaces)
 
 abbrev pub leasePlace : ℕ
-leasePlace = 2511
+leasePlace = slotWidth * slots
 
 abbrev pub scalarsPlace : ℕ
-scalarsPlace = 2604
+scalarsPlace = leasePlace + slotWidth
 
 abbrev pub refpPlace : ℕ
-refpPlace = 2615
+refpPlace = scalarsPlace + 11
 
 abbrev pub pocPlace : ℕ
-pocPlace = 6395
+pocPlace = refpPlace + refpWidth * (2 * listPlaces)
 
 abbrev pub imageLength : ℕ
-imageLength = 6407
+imageLength = pocPlace + 12
 
 -- ---- the bytes of each part
 
@@ -141,8 +141,8 @@ slotFlags bs i = isFlag bs i && (isFlag bs (i + 2) && isFlag bs (i + 3))
 
 -- The length is right and each flag byte is 0 or 1: three in each slot, the lease too, and one in each entry.
 unfoldable pub isImage : List ℕ → Bool
-unfolding all entries
+unfolding allOf entries
 isImage bs =
     eqb (length bs) imageLength
-    && (all (slotFlags bs) (rowAt (λ i. i) slotWidth 0 (slots + 1))
-    && all (isFlag bs) (rowAt (λ i. i) refpWidth refpPlace (2 * listPlaces)))
+    && (allOf (slotFlags bs) (rowAt (λ i. i) slotWidth 0 (slots + 1))
+    && allOf (isFlag bs) (rowAt (λ i. i) refpWidth refpPlace (2 * listPlaces)))

@@ -1,14 +1,19 @@
 // The image that the library lends to C: state, lists and record as 6,407 bytes, big-endian.
 // Which bytes are an image, what they stand for, and how they are written.
+use crate::places::IMAGE_LENGTH;
+use crate::places::REFP_PLACE;
+use crate::places::REFP_WIDTH;
+use crate::places::SLOT_WIDTH;
 use def::MAX_PB_SIZE;
 use def::REFP_PLACES;
 ghost use mathlib.Core.Path.{_≡_};
 ghost use Prim.Native.Nat.{_+_, _*_, _≤_, _<_};
 ghost use lib.ListN.{length};
-ghost use Rattle.seq.specs.Lists.{all};
+ghost use Rattle.seq.specs.Lists.{allOf};
 ghost use Rattle.def.specs.State.{slots, listPlaces};
 ghost use Rattle.image.specs.Image.{slotWidth, refpWidth, refpPlace, imageLength, rowAt, isFlag, slotFlags, isImage};
 
+pub mod places;
 pub mod read;
 pub mod write;
 
@@ -29,12 +34,12 @@ fn slot_flags(image: &[u8], at: usize) -> bool
 // The flags of each slot, the lease behind them too.
 fn slots_flagged(image: &[u8]) -> bool
     requires { ⌜ length (now image) ≡ imageLength ⌝ }
-    ensures { λ r. ⌜ r ≡ all (slotFlags (now (image .entry))) (rowAt (λ i. i) slotWidth 0 (slots + 1)) ⌝ }
+    ensures { λ r. ⌜ r ≡ allOf (slotFlags (now (image .entry))) (rowAt (λ i. i) slotWidth 0 (slots + 1)) ⌝ }
 {
     let mut ok = true;
     let mut i = 0;
     while i < MAX_PB_SIZE + 1 {
-        ok = ok & slot_flags(image, 93 * i);
+        ok = ok & slot_flags(image, SLOT_WIDTH * i);
         i = i + 1;
     }
     ok
@@ -42,12 +47,12 @@ fn slots_flagged(image: &[u8]) -> bool
 
 fn refps_flagged(image: &[u8]) -> bool
     requires { ⌜ length (now image) ≡ imageLength ⌝ }
-    ensures { λ r. ⌜ r ≡ all (isFlag (now (image .entry))) (rowAt (λ i. i) refpWidth refpPlace (2 * listPlaces)) ⌝ }
+    ensures { λ r. ⌜ r ≡ allOf (isFlag (now (image .entry))) (rowAt (λ i. i) refpWidth refpPlace (2 * listPlaces)) ⌝ }
 {
     let mut ok = true;
     let mut i = 0;
     while i < REFP_PLACES {
-        ok = ok & is_flag(image, 2615 + 90 * i);
+        ok = ok & is_flag(image, REFP_PLACE + REFP_WIDTH * i);
         i = i + 1;
     }
     ok
@@ -57,7 +62,7 @@ fn refps_flagged(image: &[u8]) -> bool
 pub fn is_image(image: &[u8]) -> bool
     ensures { λ r. ⌜ r ≡ isImage (now (image .entry)) ⌝ }
 {
-    if image.len() != 6407 {
+    if image.len() != IMAGE_LENGTH {
         return false;
     }
     slots_flagged(image) & refps_flagged(image)

@@ -1,4 +1,17 @@
 // What the bytes of an image stand for, part by part.
+use crate::places::CUR_NUM_REF_PICS_AT;
+use crate::places::CUR_PB_SIZE_AT;
+use crate::places::LEASE_PLACE;
+use crate::places::MAX_NUM_REF_PICS_AT;
+use crate::places::MAX_PB_SIZE_AT;
+use crate::places::NUM_REFP_0_AT;
+use crate::places::NUM_REFP_1_AT;
+use crate::places::POC_INCREASE_AT;
+use crate::places::POC_NEXT_OUTPUT_AT;
+use crate::places::POC_PLACE;
+use crate::places::REFP_PLACE;
+use crate::places::REFP_WIDTH;
+use crate::places::SLOT_WIDTH;
 use def::EvcPic;
 use def::EvcPm;
 use def::EvcPoc;
@@ -56,7 +69,7 @@ fn read_slots(image: &[u8]) -> [Slot; MAX_PB_SIZE]
     let mut pic = [first; MAX_PB_SIZE];
     let mut i = 0;
     while i < MAX_PB_SIZE {
-        let s = read_slot(image, 93 * i);
+        let s = read_slot(image, SLOT_WIDTH * i);
         pic[i] = s;
         i = i + 1;
     }
@@ -68,18 +81,18 @@ pub fn read_pm(image: &[u8]) -> EvcPm
     ensures { λ r. ⌜ r ≡ pmOf (now (image .entry)) ⌝ }
 {
     let pic = read_slots(image);
-    let pic_lease = read_slot(image, 2511);
+    let pic_lease = read_slot(image, LEASE_PLACE);
     EvcPm {
         pic,
         pic_lease,
-        max_pb_size: image[2604],
-        max_num_ref_pics: image[2605],
-        cur_pb_size: image[2606],
-        cur_num_ref_pics: image[2607],
-        num_refp_0: image[2608],
-        num_refp_1: image[2609],
-        poc_next_output: read_word(image, 2610),
-        poc_increase: image[2614],
+        max_pb_size: image[MAX_PB_SIZE_AT],
+        max_num_ref_pics: image[MAX_NUM_REF_PICS_AT],
+        cur_pb_size: image[CUR_PB_SIZE_AT],
+        cur_num_ref_pics: image[CUR_NUM_REF_PICS_AT],
+        num_refp_0: image[NUM_REFP_0_AT],
+        num_refp_1: image[NUM_REFP_1_AT],
+        poc_next_output: read_word(image, POC_NEXT_OUTPUT_AT),
+        poc_increase: image[POC_INCREASE_AT],
     }
 }
 
@@ -101,11 +114,11 @@ pub fn read_refps(image: &[u8]) -> [EvcRefP; REFP_PLACES]
     requires { ⌜ length (now image) ≡ imageLength ⌝ }
     ensures { λ r. ⌜ r ≡ refpOf (now (image .entry)) ⌝ }
 {
-    let first = read_refp(image, 2615);
+    let first = read_refp(image, REFP_PLACE);
     let mut refp = [first; REFP_PLACES];
     let mut i = 0;
     while i < REFP_PLACES {
-        let e = read_refp(image, 2615 + 90 * i);
+        let e = read_refp(image, REFP_PLACE + REFP_WIDTH * i);
         refp[i] = e;
         i = i + 1;
     }
@@ -116,5 +129,5 @@ pub fn read_poc(image: &[u8]) -> EvcPoc
     requires { ⌜ length (now image) ≡ imageLength ⌝ }
     ensures { λ r. ⌜ r ≡ pocOf (now (image .entry)) ⌝ }
 {
-    read_poc_at(image, 6395)
+    read_poc_at(image, POC_PLACE)
 }

@@ -1,5 +1,18 @@
 // The bytes of an image, written part by part into a lent one; the bytes before and behind stay.
 // `Stored bs at ys n after` says: after is bs with ys, n bytes, stored from place at on.
+use crate::places::CUR_NUM_REF_PICS_AT;
+use crate::places::CUR_PB_SIZE_AT;
+use crate::places::LEASE_PLACE;
+use crate::places::MAX_NUM_REF_PICS_AT;
+use crate::places::MAX_PB_SIZE_AT;
+use crate::places::NUM_REFP_0_AT;
+use crate::places::NUM_REFP_1_AT;
+use crate::places::POC_INCREASE_AT;
+use crate::places::POC_NEXT_OUTPUT_AT;
+use crate::places::POC_PLACE;
+use crate::places::REFP_PLACE;
+use crate::places::REFP_WIDTH;
+use crate::places::SLOT_WIDTH;
 use def::EvcPm;
 use def::EvcPoc;
 use def::EvcRefP;
@@ -14,7 +27,7 @@ ghost use mathlib.Core.Path.{_≡_};
 ghost use mathlib.Core.List.{flatMap};
 ghost use Prim.Native.Nat.{_+_, _*_, _≤_};
 ghost use lib.ListN.{length};
-ghost use Rattle.seq.specs.Stores.{Stored};
+ghost use Rattle.seq.specs.Lists.{Stored};
 ghost use Rattle.def.specs.State.{listPlaces};
 ghost use Rattle.image.specs.Image.{slotWidth, refpWidth, leasePlace, scalarsPlace, refpPlace, imageLength, listBytes, slotBytes, scalarBytes, pmBytes, refpBytes, imageBytes};
 
@@ -52,7 +65,7 @@ fn write_slots(image: &mut [u8], pic: [Slot; MAX_PB_SIZE])
     let mut i = 0;
     while i < MAX_PB_SIZE {
         let s = pic[i];
-        write_slot(image, 93 * i, s);
+        write_slot(image, SLOT_WIDTH * i, s);
         i = i + 1;
     }
 }
@@ -62,14 +75,14 @@ fn write_scalars(image: &mut [u8], pm: EvcPm)
     requires { ⌜ length (now image) ≡ imageLength ⌝ }
     ensures { λ _. ⌜ Stored (now (image .entry)) scalarsPlace (scalarBytes pm) 11 (now (image .exit)) ⌝ }
 {
-    image[2604] = pm.max_pb_size;
-    image[2605] = pm.max_num_ref_pics;
-    image[2606] = pm.cur_pb_size;
-    image[2607] = pm.cur_num_ref_pics;
-    image[2608] = pm.num_refp_0;
-    image[2609] = pm.num_refp_1;
-    write_word(image, 2610, pm.poc_next_output);
-    image[2614] = pm.poc_increase;
+    image[MAX_PB_SIZE_AT] = pm.max_pb_size;
+    image[MAX_NUM_REF_PICS_AT] = pm.max_num_ref_pics;
+    image[CUR_PB_SIZE_AT] = pm.cur_pb_size;
+    image[CUR_NUM_REF_PICS_AT] = pm.cur_num_ref_pics;
+    image[NUM_REFP_0_AT] = pm.num_refp_0;
+    image[NUM_REFP_1_AT] = pm.num_refp_1;
+    write_word(image, POC_NEXT_OUTPUT_AT, pm.poc_next_output);
+    image[POC_INCREASE_AT] = pm.poc_increase;
 }
 
 fn write_pm(image: &mut [u8], pm: EvcPm)
@@ -79,7 +92,7 @@ fn write_pm(image: &mut [u8], pm: EvcPm)
     let pic = pm.pic;
     let pic_lease = pm.pic_lease;
     write_slots(image, pic);
-    write_slot(image, 2511, pic_lease);
+    write_slot(image, LEASE_PLACE, pic_lease);
     write_scalars(image, pm);
 }
 
@@ -102,7 +115,7 @@ fn write_refps(image: &mut [u8], refp: [EvcRefP; REFP_PLACES])
     let mut i = 0;
     while i < REFP_PLACES {
         let e = refp[i];
-        write_refp(image, 2615 + 90 * i, e);
+        write_refp(image, REFP_PLACE + REFP_WIDTH * i, e);
         i = i + 1;
     }
 }
@@ -114,5 +127,5 @@ pub fn write_image(image: &mut [u8], pm: EvcPm, refp: [EvcRefP; REFP_PLACES], po
 {
     write_pm(image, pm);
     write_refps(image, refp);
-    write_poc_at(image, 6395, poc);
+    write_poc_at(image, POC_PLACE, poc);
 }

@@ -8,7 +8,7 @@ use native.Mathlib.Omega.{arith}
 use lib.Dec.{eqb}
 use lib.ListN.{length}
 use Rattle.def.specs.Refusals.{NumberInUse}
-use Rattle.seq.specs.All.{and-left}
+use Rattle.seq.proofs.Tests.{and-left}
 use Rattle.def.specs.declared.EvcRefP.{EvcRefP}
 use Rattle.def.specs.declared.CopyResult.{CopyResult}
 use Rattle.refp.proofs.CopyLaws.{copy-refused-unchanged}
@@ -16,7 +16,7 @@ use Rattle.line.specs.Calls.{callFrom}
 use Rattle.line.specs.declared.Line.{Line}
 use Rattle.line.specs.declared.Line.the-variants.{Good, Bad}
 use Rattle.image.specs.Image.{imageLength, Bytes, refpAt, refpOf, isImage}
-use Rattle.image.specs.BytesKept.{bytes-kept}
+use Rattle.image.proofs.BytesKept.{bytes-kept}
 use Rattle.machine.specs.Step.{newMachine}
 use Rattle.machine.proofs.EveryCall.{refused-answer, call-unchanged}
 use Rattle.exchange.specs.Lent.{badLine, Left, left, machineOf, machineBytes}

@@ -15,7 +15,7 @@ use Rattle.image.specs.Image.{imageLength, imageBytes, pmOf, refpOf, pocOf, isI
 use Rattle.machine.specs.declared.Stepped.{Stepped}
 use Rattle.machine.specs.Step.{newMachine, step, stepLine}
 use Rattle.wire.specs.Wire.{answerLength, answerBytes}
-use Rattle.exchange.specs.Lent.{badLine, Left, left, machineOf, machineBytes, Holds}
+use Rattle.exchange.specs.Lent.{badLine, Left, left, machineOf, machineBytes, ImageHolds}
 
 -- `renew_image`: the new machine, whatever the bytes were. Another length is 18, and nothing is written.
 unfoldable pub renewed : List ℕ → Left
@@ -25,7 +25,7 @@ renewed image = cond (eqb (length image) imageLength) (left 0 (machineBytes newM
 -- What holds of it, with the image that came and the one that is left.
 pub record Renews (r : ℕ) (image image′ : List ℕ) : Type 0 where
   pub given : left r image′ ≡ renewed image
-  pub holds : length image ≡ imageLength → Holds image′ newMachine
+  pub holds : length image ≡ imageLength → ImageHolds image′ newMachine
   pub kept : NumberInUse r → image′ ≡ image
 
 -- What a function gives, and what stands in the lent buffers, where one for an answer is lent too.
@@ -55,5 +55,5 @@ called image call answer =
 -- What holds of it, with the buffers that came and as they are left.
 pub record Answers (r : ℕ) (image call answer image′ answer′ : List ℕ) : Type 0 where
   pub given : answered r image′ answer′ ≡ called image call answer
-  pub holds : isImage image ≡ true → length answer ≡ answerLength → Holds image′ (stepLine (machineOf image) (callFrom call) .machine)
+  pub holds : isImage image ≡ true → length answer ≡ answerLength → ImageHolds image′ (stepLine (machineOf image) (callFrom call) .machine)
   pub kept : NumberInUse r → image′ ≡ image

@@ -14,7 +14,7 @@ use Rattle.line.specs.Answers.{replyOf}
 use Rattle.image.specs.Image.{refpWidth, imageBytes, pmOf, refpAt, refpOf, pocOf, isFlag, isImage}
 use Rattle.refp.specs.Copy.{copy}
 use Rattle.machine.specs.declared.Machine.{Machine}
-use Rattle.exchange.specs.Lent.{badLine, Left, left, machineOf, machineBytes, Holds}
+use Rattle.exchange.specs.Lent.{badLine, Left, left, machineOf, machineBytes, ImageHolds}
 
 -- A list entry as bytes: 90 of them, the first a flag.
 abbrev pub isEntry : List ℕ → Bool
@@ -42,5 +42,5 @@ copied image cnt lidx entry = cond (isImage image && isEntry entry) (relisted im
 -- What holds of it, with the image that came and the one that is left.
 pub record Copies (r : ℕ) (image : List ℕ) (cnt lidx : ℕ) (entry image′ : List ℕ) : Type 0 where
   pub given : left r image′ ≡ copied image cnt lidx entry
-  pub holds : isImage image ≡ true → isEntry entry ≡ true → Holds image′ (withLists (machineOf image) (copyInto image cnt lidx entry .refp))
+  pub holds : isImage image ≡ true → isEntry entry ≡ true → ImageHolds image′ (withLists (machineOf image) (copyInto image cnt lidx entry .refp))
   pub kept : NumberInUse r → image′ ≡ image

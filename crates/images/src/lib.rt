@@ -7,14 +7,16 @@ use exchange::read_machine;
 use exchange::write_machine;
 use image::is_flag;
 use image::is_image;
+use image::places::IMAGE_LENGTH;
+use image::places::REFP_WIDTH;
 use image::read::read_refp;
+use line::BAD_LINE;
 use line::Call;
 use line::Line;
+use line::bad_line_reply;
 use line::read_call;
 use line::reply_of;
 use machine::fresh::new_machine;
-use sizing::BAD_LINE;
-use sizing::bad_line_reply;
 use stepping::step;
 use wire::ANSWER_LENGTH;
 use wire::write_answer;
@@ -23,16 +25,12 @@ ghost use lib.ListN.{length};
 ghost use Rattle.line.specs.Answers.{badLineReply};
 ghost use Rattle.image.specs.Image.{refpWidth, imageLength};
 ghost use Rattle.machine.specs.Step.{step};
-ghost use Rattle.exchange.specs.Lent.{badLine, left, machineOf, Holds};
+ghost use Rattle.exchange.specs.Lent.{badLine, left, machineOf, ImageHolds};
 ghost use Rattle.wire.specs.Wire.{answerLength, answerBytes};
 ghost use Rattle.images.specs.Called.{answered, replied, Renews, Answers};
 ghost use Rattle.images.specs.Copied.{isEntry, copyInto, withLists, relisted, Copies};
 
 const DONE: u8 = 0;
-
-const IMAGE_LENGTH: usize = 6407;
-
-const ENTRY_LENGTH: usize = 90;
 
 // Writes the new machine, whatever the image held: 0.
 pub fn renew_image(image: &mut [u8]) -> u8
@@ -50,7 +48,7 @@ pub fn renew_image(image: &mut [u8]) -> u8
 fn answer_good(image: &mut [u8], call: Call, answer: &mut [u8]) -> u8
     requires { ⌜ (length (now image) ≡ imageLength) × (length (now answer) ≡ answerLength) ⌝ }
     ensures given { λ r. ⌜ answered r (now (image .exit)) (now (answer .exit)) ≡ replied (step (machineOf (now (image .entry))) call) ⌝ }
-    ensures holds { λ _. ⌜ Holds (now (image .exit)) (step (machineOf (now (image .entry))) call .machine) ⌝ }
+    ensures holds { λ _. ⌜ ImageHolds (now (image .exit)) (step (machineOf (now (image .entry))) call .machine) ⌝ }
 {
     let before = read_machine(image);
     let stepped = step(before, call);
@@ -89,7 +87,7 @@ pub fn call_image(image: &mut [u8], call: &[u8], answer: &mut [u8]) -> u8
 fn is_entry(entry: &[u8]) -> bool
     ensures { λ r. ⌜ r ≡ isEntry (now (entry .entry)) ⌝ }
 {
-    if entry.len() != ENTRY_LENGTH {
+    if entry.len() != REFP_WIDTH {
         return false;
     }
     is_flag(entry, 0)
@@ -99,7 +97,7 @@ fn is_entry(entry: &[u8]) -> bool
 fn copy_entry(image: &mut [u8], cnt: u64, lidx: u64, entry: &[u8]) -> u8
     requires { ⌜ (length (now image) ≡ imageLength) × (length (now entry) ≡ refpWidth) ⌝ }
     ensures given { λ r. ⌜ left r (now (image .exit)) ≡ relisted (now (image .entry)) (copyInto (now (image .entry)) cnt lidx (now (entry .entry))) ⌝ }
-    ensures holds { λ _. ⌜ Holds (now (image .exit)) (withLists (machineOf (now (image .entry))) (copyInto (now (image .entry)) cnt lidx (now (entry .entry)) .refp)) ⌝ }
+    ensures holds { λ _. ⌜ ImageHolds (now (image .exit)) (withLists (machineOf (now (image .entry))) (copyInto (now (image .entry)) cnt lidx (now (entry .entry)) .refp)) ⌝ }
 {
     let machine = read_machine(image);
     let refp = machine.refp;

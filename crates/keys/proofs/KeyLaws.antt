@@ -11,8 +11,8 @@ use mir.Val.{boolByte}
 use lib.Dec.{eqb}
 use lib.ListN.{replicate}
 use Rattle.seq.specs.Lists.{select}
-use Rattle.seq.specs.Commute.{map-select, map-map}
-use Rattle.def.specs.State.{newPic, held, unmarked, handedOver, isPresent, bufferOf}
+use Rattle.seq.proofs.Maps.{map-select, map-map}
+use Rattle.def.specs.State.{newPic, occupiedBy, unmarked, handedOver, isPresent, bufferOf}
 use Rattle.keys.specs.Keys.{keyPresent, keyBuffer, keyUnmarked, keyHandedOver, keyMade, rowAt, slotAt}
 
 -- ---- a key that loses a flag
@@ -126,13 +126,13 @@ bit false = refl
 -- The slot that a made key stands for.
 pub slot-made : (rows : List ℕ) (poc layer b : ℕ) (wanted ref : Bool) → layer < 256 → b < 32
     → slotAt rows (keyMade poc layer b wanted ref)
-    ≡ held (record { poc = poc; «is_ref» = ref; «need_for_out» = wanted; «temporal_id» = layer; «list_poc» = rowAt rows b }) b
+    ≡ occupiedBy (record { poc = poc; «is_ref» = ref; «need_for_out» = wanted; «temporal_id» = layer; «list_poc» = rowAt rows b }) b
 slot-made rows poc layer b wanted ref hl hb =
     let r = made-read poc layer b wanted ref hl hb in
     rw (r .here, r .marks, r .wants, r .buffer, r .layers, r .number, bit ref, bit wanted) refl
 
 -- A new picture's key.
-pub slot-new : (rows : List ℕ) (b : ℕ) → b < 32 → rowAt rows b ≡ replicate 21 0 → slotAt rows (b * 8 + 1) ≡ held newPic b
+pub slot-new : (rows : List ℕ) (b : ℕ) → b < 32 → rowAt rows b ≡ replicate 21 0 → slotAt rows (b * 8 + 1) ≡ occupiedBy newPic b
 slot-new rows b h r =
     let k : ℕ = b * 8 + 1 in
     let a : k % 2 ≡ 1 = omega arith in

@@ -6,9 +6,9 @@ use Prim.Native.Nat.{ℕ, _+_, _-_, _*_, _<_, _≤_}
 use native.Mathlib.Omega.{arith}
 use lib.ListN.{length, getD, take, length-map}
 use lib.Seq.{paste, ext-getD, getD-take, getD-drop, length-take-le, drop-paste}
-use Rattle.seq.specs.Table.{entries, entry}
-use Rattle.seq.specs.Fills.{length-entries}
-use Rattle.seq.specs.Maps.{map-at}
+use Rattle.seq.specs.Lists.{entries}
+use Rattle.seq.proofs.Rows.{entry, length-entries}
+use Rattle.seq.proofs.Members.{map-at}
 use Rattle.def.specs.declared.EvcRefP.{EvcRefP}
 use Rattle.def.specs.State.{slots, listPlaces, noRefP}
 use Rattle.keys.specs.Keys.{rowsLength, rowLength, numberRow, rowAt, entryAt, listsIn}

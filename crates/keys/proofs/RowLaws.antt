@@ -8,8 +8,8 @@ use native.Mathlib.Numerals.{add-one}
 use native.Mathlib.Omega.{arith}
 use lib.ListN.{length, getD, take, drop, set, length-set, length-drop, drop-of-length-le}
 use lib.Seq.{paste, paste-zero, paste-suc, getD-take, getD-drop, length-take-le, drop-at, drop-drop, drop-append-le, take-append-le, take-take, drop-paste, take-all, take-nil, take-append-add}
-use Rattle.seq.specs.Numbers.{lt-or-ge}
-use Rattle.seq.specs.Commute.{copy-turn}
+use Rattle.seq.proofs.Tests.{lt-or-ge}
+use Rattle.seq.proofs.Maps.{copy-turn}
 use Rattle.keys.specs.Keys.{rowsLength, rowCount, rowAt}
 
 pub drop-take : {A : Type 0} (n m : ℕ) (l : List A) → drop n (take m l) ≡ take (m - n) (drop n l)

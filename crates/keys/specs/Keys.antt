@@ -9,8 +9,7 @@ use mathlib.Core.List.{List, map}
 use mir.Val.{boolByte}
 use lib.Dec.{eqb}
 use lib.ListN.{length, getD, take, drop, replicate}
-use Rattle.seq.specs.Lists.{select}
-use Rattle.seq.specs.Table.{entries}
+use Rattle.seq.specs.Lists.{select, entries}
 use Rattle.def.specs.State.{slots, listPlaces}
 use Rattle.def.specs.declared.{Slot.Slot, EvcPm.EvcPm, EvcRefP.EvcRefP, PmResult.PmResult, RefpResult.RefpResult}
 use Rattle.keys.specs.declared.{Rest.Rest, Called.Called}

@@ -9,9 +9,10 @@ use lib.Dec.{ltb}
 use lib.ListN.{length, drop, length-drop}
 use native.Mathlib.Nat.{div-div-eq-div-mul}
 use borrow.Author.Tests.{ltb-true, eq-eqb}
-use Rattle.seq.specs.Lowest.{lowest-le}
+use Rattle.seq.proofs.Walks.{lowest-le}
 use Rattle.buffer.specs.Buffer.{isNewline, lineEnd}
-use Rattle.def.specs.Word.{word, word-of-bytes}
+use Rattle.def.specs.Word.{word}
+use Rattle.def.proofs.WordLaws.{word-of-bytes}
 use Rattle.reader.specs.declared.Read.{Read}
 use Rattle.reader.specs.Reading.{answerAt, afterLine}
 use Rattle.writer.specs.declared.Written.{Written}

@@ -3,6 +3,7 @@ ghost use mathlib.Core.Path.{_≡_};
 ghost use lib.ListN.{length};
 ghost use Rattle.def.specs.State.{slots};
 ghost use Rattle.marking.specs.OnKeys.{Unmarks, Walked, Marks};
+use def::MAX_NUM_ACTIVE_REF_FRAME;
 use keys::SLOTS;
 use keys::key::is_marked;
 use keys::key::unmarked;
@@ -12,7 +13,7 @@ use sweeping::pick_outdated;
 use sweeping::sweep;
 
 // Most slots that stay marked: one less than the sliding limit.
-const MOST_MARKED: u8 = 4;
+const MOST_MARKED: u8 = MAX_NUM_ACTIVE_REF_FRAME as u8 - 1;
 
 // The first `n` marked slots are unmarked, and noted.
 fn unmark_first(keys: &mut [u64], n: u8, notes: &mut [bool; SLOTS])

@@ -10,9 +10,9 @@ use mathlib.Core.Option.{Option, none, some}
 use lib.Dec.{eqb}
 use lib.ListN.{length}
 use borrow.Author.Tests.{ltb-false, le-ltb, eqb-true}
-use Rattle.seq.specs.All.{and-left, and-right}
-use Rattle.seq.specs.Table.{entriesFrom}
-use Rattle.def.specs.Word.{word-of-bytes, bytes-of-word}
+use Rattle.seq.proofs.Tests.{and-left, and-right}
+use Rattle.seq.specs.Lists.{entriesFrom}
+use Rattle.def.proofs.WordLaws.{word-of-bytes, bytes-of-word}
 use Rattle.line.specs.declared.Call.{Call}
 use Rattle.line.specs.declared.Call.the-variants.{Init, GetEmptyPic, PutPic, OutPic, RefpInit, PocDerivation}
 use Rattle.line.specs.declared.Reply.{Reply}

@@ -9,7 +9,7 @@ use mathlib.Core.Option.{none}
 use lib.Dec.{eqb}
 use lib.ListN.{length}
 use borrow.Author.Tests.{ne-eqb, eqb-true}
-use Rattle.seq.specs.Lists.{all}
+use Rattle.seq.specs.Lists.{allOf}
 use Rattle.line.specs.declared.Line.the-variants.{Bad}
 use Rattle.hex.proofs.HexLaws.{bytes-length, body-length, not-second}
 use Rattle.hex.specs.Hex.{isDigit, bytesOf}
@@ -34,7 +34,7 @@ longest-body b h =
 
 pub too-long : (cs : List ℕ) → longestLine < length cs → readLine cs ≡ Bad
 unfolding readLine callKind
-too-long cs h = by-hex (all isDigit cs) (eqb (length cs % 2) 0) refl
+too-long cs h = by-hex (allOf isDigit cs) (eqb (length cs % 2) 0) refl
   where
     by-sum : length cs % 2 ≡ 0 → (b : Bool) → lineFor (cond b (callIn (bodyOf (bytesOf cs))) none) ≡ Bad
     by-sum e true = ap lineFor (longest-body (bodyOf (bytesOf cs)) (omega (arith, bytes-length cs, body-length (bytesOf cs))))

@@ -8,8 +8,8 @@ use mathlib.Core.Option.{none}
 use lib.Dec.{ltb, eqb}
 use lib.ListN.{length}
 use borrow.Author.Tests.{ne-eqb, eq-eqb, lt-ltb}
-use Rattle.seq.specs.Lists.{all}
-use Rattle.seq.specs.All.{and-both}
+use Rattle.seq.specs.Lists.{allOf}
+use Rattle.seq.proofs.Tests.{and-both}
 use Rattle.line.specs.declared.Line.the-variants.{Bad}
 use Rattle.hex.specs.Hex.{isDigit, isHex, bytesOf, sum8}
 use Rattle.hex.specs.Frame.{bodyOf, isChecked, isFramed, fromBytes}
@@ -40,7 +40,7 @@ pub bad-digits : (cs : List ℕ) → isHex cs ≡ false → readLine cs ≡ Bad
 unfolding readLine
 bad-digits cs e = ap (λ (b : Bool). lineFor (cond b (fromBytes callKind (bytesOf cs)) none)) e
 
-pub hex-line : (cs : List ℕ) → all isDigit cs ≡ true → length cs % 2 ≡ 0 → readLine cs ≡ callFrom (bytesOf cs)
+pub hex-line : (cs : List ℕ) → allOf isDigit cs ≡ true → length cs % 2 ≡ 0 → readLine cs ≡ callFrom (bytesOf cs)
 unfolding readLine callFrom
 hex-line cs e f = rw (e, eq-eqb (length cs % 2) 0 f)
 

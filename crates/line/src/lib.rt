@@ -13,7 +13,7 @@ ghost use lib.ListN.{length};
 ghost use Rattle.hex.specs.Hex.{sum8, word};
 ghost use Rattle.hex.specs.Frame.{withCheck, wordAt};
 ghost use Rattle.line.specs.Calls.{isCall, putIn, listsIn, callIn, lineFor, callFrom, readLine};
-ghost use Rattle.line.specs.Answers.{noBuffer, reply, replyOf, replyBytes, answerLine};
+ghost use Rattle.line.specs.Answers.{noBuffer, reply, replyOf, replyBytes, answerLine, badLineReply};
 
 // The longest call line has 26 digits.
 pub const LONGEST_LINE: usize = 26;
@@ -22,7 +22,10 @@ pub const LONGEST_LINE: usize = 26;
 const LONGEST_CALL: usize = 13;
 
 // Where there is no buffer number the line shows this.
-const NO_BUFFER: u8 = 0xff;
+pub const NO_BUFFER: u8 = 0xff;
+
+// The status of a bad line, and what the library gives where a size does not fit.
+pub const BAD_LINE: u8 = 18;
 
 // What a status is where a call was done and hands over no picture.
 const NOT_YET: u8 = 0x40;
@@ -189,6 +192,18 @@ fn without_picture(call: u8, status: u8) -> Reply
     Reply {
         call,
         status,
+        buf: NO_BUFFER,
+        value: 0,
+    }
+}
+
+// The reply to a bad line.
+pub fn bad_line_reply() -> Reply
+    ensures { λ r. ⌜ r ≡ badLineReply ⌝ }
+{
+    Reply {
+        call: 0,
+        status: BAD_LINE,
         buf: NO_BUFFER,
         value: 0,
     }

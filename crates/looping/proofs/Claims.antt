@@ -9,7 +9,7 @@ use lib.Seq.{take-take}
 use Rattle.io.specs.Counts.{clamped}
 use Rattle.reading.proofs.Signs.{nothing-brought, nothing-failed}
 use Rattle.run.specs.declared.Session.{Session}
-use Rattle.run.specs.Partial.{kept}
+use Rattle.run.specs.Partial.{keptLength}
 use Rattle.run.specs.Run.{Runner, Fed, after, program, feed, finish, start, joined}
 use Rattle.run.specs.Session.{runnerIn}
 use Rattle.run.proofs.Kept.{Alike, feed-alike}
@@ -41,7 +41,7 @@ module _ (keys rows : List ℕ) (s : Session) (out keys′ rows′ out′ : List
       record {
         alike = record {
           machines = e .machine ∙ n .runners .machines;
-          lines = ap (take kept) (e .line) ∙ take-take kept kept (feed (runnerIn keys rows s) (broughtBy t piece′) .runner .line) (omega arith) ∙ n .runners .lines;
+          lines = ap (take keptLength) (e .line) ∙ take-take keptLength keptLength (feed (runnerIn keys rows s) (broughtBy t piece′) .runner .line) (omega arith) ∙ n .runners .lines;
         };
         wrote = front out′ _ _ (t .written) (e .written) (e .length-is) ∙ n .written;
       }

@@ -6,7 +6,7 @@ use mathlib.Core.List.{List, _++_}
 use lib.ListN.{take}
 use Rattle.machine.specs.Running.{machineIn}
 use Rattle.run.specs.declared.Session.{Session}
-use Rattle.run.specs.Partial.{kept, heldLine}
+use Rattle.run.specs.Partial.{keptLength, heldLine}
 use Rattle.run.specs.Run.{Runner, program, feed, joined}
 use Rattle.run.specs.Session.{runnerIn, NewSession, newKeys, newRows}
 use Rattle.giving.specs.declared.Handed.{Handed}
@@ -16,7 +16,7 @@ use Rattle.looping.specs.Loop.{Turns, Looped}
 -- run writes.
 pub record RanAll (from : Runner) (input given keys rows : List ℕ) (s : Session) : Type 0 where
   pub machine : machineIn keys rows (s .scalars) ≡ feed from input .runner .machine
-  pub line : take kept (heldLine (s .partial)) ≡ take kept (feed from input .runner .line)
+  pub line : take keptLength (heldLine (s .partial)) ≡ take keptLength (feed from input .runner .line)
   pub written : given ≡ feed from input .written
 
 -- What the turns leave is the machine after the bytes that were read.

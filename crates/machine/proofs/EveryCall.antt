@@ -19,7 +19,7 @@ use Rattle.poc.specs.declared.PocAnswer.the-variants as poc
 use Rattle.poc.specs.Why.{Refusing}
 use Rattle.poc.proofs.Why.{derive-why, derive-refused}
 use Rattle.whole.specs.Whole.{whole}
-use Rattle.whole.specs.Laws.{new-whole}
+use Rattle.whole.proofs.Laws.{new-whole}
 use Rattle.refp.specs.Lists.{lists}
 use Rattle.refp.specs.Claims.{ListsReason}
 use Rattle.refp.specs.Claims as lists-claims

@@ -7,7 +7,7 @@ use mathlib.Core.List.{List, _∷_}
 use Prim.Native.Nat.{ℕ, zero, suc, _+_, _-_, _*_, _≤_, _<_}
 use native.Mathlib.Omega.{arith}
 use lib.ListN.{getD, take, drop, length-map, replicate, getD-replicate}
-use Rattle.seq.specs.Table.{entriesFrom, entries}
+use Rattle.seq.specs.Lists.{entriesFrom, entries}
 use Rattle.def.specs.declared.{EvcPm.EvcPm, EvcRefP.EvcRefP, EvcPoc.EvcPoc, PutCall.PutCall, RefpCall.RefpCall, PmResult.PmResult, RefpResult.RefpResult}
 use Rattle.def.specs.State.{slots}
 use Rattle.keys.specs.Keys.{rowLength, headRow, numberRow, entryRow, rowsLength, rowAt, slotAt, entryAt, stands, listsIn, Sized}

@@ -40,7 +40,7 @@ pub record CallRoom (keys rows : List ℕ) (s : Scalars) (call : Call) : Type 0 
   pub ready : readsState call ≡ true → whole (stands keys rows (s .rest)) ≡ true
 
 -- Arrays and scalars are as they were.
-pub record Untouched (r : Made) (s : Scalars) (keys rows keys′ rows′ : List ℕ) : Type 0 where
+pub record MachineUntouched (r : Made) (s : Scalars) (keys rows keys′ rows′ : List ℕ) : Type 0 where
   pub same-keys : keys′ ≡ keys
   pub same-rows : rows′ ≡ rows
   pub same-scalars : r .scalars ≡ s
@@ -54,7 +54,7 @@ pub record Makes (r : Made) (s : Scalars) (keys rows keys′ rows′ : List ℕ)
   pub replies : r .reply ≡ wanted .reply
   pub machine-is : machineIn keys′ rows′ (r .scalars) ≡ wanted .machine
   pub still-sized : Sized keys′ rows′
-  pub refused-leaves : TurnedDown (r .reply) → Untouched r s keys rows keys′ rows′
+  pub refused-leaves : TurnedDown (r .reply) → MachineUntouched r s keys rows keys′ rows′
 
 -- A call's answer as a reply; state and lists are the call's, the record stays.
 abbrev pub madeOf : ℕ → Called → EvcPoc → Made

@@ -1,4 +1,4 @@
--- Document 01, "Program": what each call does to state, lists and record, and what its answer shows.
+-- Section 11 of the specification: what each call does to state, lists and record, and what its answer shows.
 -- Assumes nothing.
 use Prim.Native.Nat.{ℕ, _*_, _/_, _%_}
 use mathlib.Core.Bool.{Bool, false, not}

@@ -5,16 +5,15 @@ use def::refusal_number;
 use def::slice_type_of;
 use def::word::signed_of;
 use def::word::twos_complement;
+use line::NO_BUFFER;
 use line::Reply;
 use poc::PocAnswer;
 ghost use mathlib.Core.Path.{_≡_};
 ghost use Prim.Native.Nat.{_<_};
 ghost use Rattle.machine.specs.Step.{flag, putCallOf, refpCallOf, derivedReply};
 
-// The call byte of a derivation, and the buffer number that its answer shows.
+// The call byte of a derivation.
 const POC_DERIVATION: u8 = 6;
-
-pub const NO_BUFFER: u8 = 0xff;
 
 // Whether flags have the bit of a weight.
 fn flag(flags: u8, weight: u8) -> bool

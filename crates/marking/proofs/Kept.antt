@@ -6,10 +6,10 @@ use mathlib.Core.Path.{_≡_, refl, ap, _∙_}
 use mathlib.Core.Bool.{Bool, true, false, cond, not}
 use mathlib.Core.List.{List, [], _∷_, _++_, map}
 use lib.ListN.{length}
-use Rattle.seq.specs.Lists.{all, count, selectAt, moveTo}
-use Rattle.seq.specs.All.{and-left, and-right, and-both}
-use Rattle.seq.specs.Partition.{others}
-use Rattle.seq.specs.Reorder.{Reordered, count-cons, count-length-same, reordered-past, reordered-move, reordered-all}
+use Rattle.seq.specs.Lists.{allOf, countIf, selectAt, moveTo, Reordered}
+use Rattle.seq.proofs.Tests.{and-left, and-right, and-both}
+use Rattle.seq.proofs.Partition.{others}
+use Rattle.seq.proofs.Orders.{count-cons, count-length-same, reordered-past, reordered-move, reordered-all}
 use Rattle.def.specs.declared.Slot.{Slot}
 use Rattle.def.specs.State.{slots, noSlot, isMarked, unmarked}
 use Rattle.marking.specs.Marking.{lastSlot, outdated, sweep, excess, unmarkFirst, noteFirst, lastWalk, slide, marked}
@@ -17,8 +17,8 @@ use Rattle.marking.specs.Marking.{lastSlot, outdated, sweep, excess, unm
 -- The slots ys are the slots xs in some order, some of them unmarked: a test that does not read the mark is passed by as many,
 -- and what holds of each slot, marked or unmarked, still holds of each.
 pub record Kept (xs ys : List Slot) : Type 0 where
-  pub as-many : (p : Slot → Bool) → ((s : Slot) → p (unmarked s) ≡ p s) → count p ys ≡ count p xs
-  pub still : (p : Slot → Bool) → ((s : Slot) → p s ≡ true → p (unmarked s) ≡ true) → all p xs ≡ true → all p ys ≡ true
+  pub as-many : (p : Slot → Bool) → ((s : Slot) → p (unmarked s) ≡ p s) → countIf p ys ≡ countIf p xs
+  pub still : (p : Slot → Bool) → ((s : Slot) → p s ≡ true → p (unmarked s) ≡ true) → allOf p xs ≡ true → allOf p ys ≡ true
 
 pub kept-refl : (xs : List Slot) → Kept xs xs
 kept-refl xs = record { as-many = λ p f. refl; still = λ p f e. e }
@@ -33,19 +33,19 @@ kept-reordered : (xs ys : List Slot) → Reordered xs ys → Kept xs ys
 kept-reordered xs ys r = record { as-many = λ p f. r p; still = λ p f e. reordered-all xs ys r p e }
 
 kept-same : (s : Slot) {xs ys : List Slot} → Kept xs ys → Kept (s ∷ xs) (s ∷ ys)
-unfolding all
+unfolding allOf
 kept-same s {xs} {ys} k =
     record {
       as-many = λ p f. count-cons p s xs ys (k .as-many p f);
-      still = λ p f e. and-both (and-left (p s) (all p xs) e) (k .still p f (and-right (p s) (all p xs) e));
+      still = λ p f e. and-both (and-left (p s) (allOf p xs) e) (k .still p f (and-right (p s) (allOf p xs) e));
     }
 
 kept-unmarked : (s : Slot) {xs ys : List Slot} → Kept xs ys → Kept (s ∷ xs) (unmarked s ∷ ys)
-unfolding all count
+unfolding allOf countIf
 kept-unmarked s {xs} {ys} k =
     record {
       as-many = λ p f. rw (f s, k .as-many p f);
-      still = λ p f e. and-both (f s (and-left (p s) (all p xs) e)) (k .still p f (and-right (p s) (all p xs) e));
+      still = λ p f e. and-both (f s (and-left (p s) (allOf p xs) e)) (k .still p f (and-right (p s) (allOf p xs) e));
     }
 
 -- ---- each step of marking

@@ -2,3 +2,4 @@ pub mod Steps
 pub mod Kept
 pub mod Limits
 pub mod OnKeys
+pub mod Examples

@@ -9,12 +9,12 @@ use native.Mathlib.Omega.{arith}
 use lib.Dec.{ltb}
 use lib.ListN.{length, getD, drop, set, length-map}
 use lib.Seq.{getD-set-same, getD-set-other}
-use Rattle.seq.specs.Numbers.{lt-or-ge}
-use Rattle.seq.specs.Lists.{count, selectAt, moveTo}
-use Rattle.seq.specs.Maps.{map-at}
-use Rattle.seq.specs.Places.{select-same}
-use Rattle.seq.specs.Reorder.{reordered-move, count-length-same}
-use Rattle.seq.specs.Commute.{map-append, map-set, map-map, map-same, map-count, map-select-at, map-move}
+use Rattle.seq.proofs.Tests.{lt-or-ge}
+use Rattle.seq.specs.Lists.{countIf, selectAt, moveTo}
+use Rattle.seq.proofs.Members.{map-at}
+use Rattle.seq.proofs.Partition.{select-same}
+use Rattle.seq.proofs.Orders.{reordered-move, count-length-same}
+use Rattle.seq.proofs.Maps.{map-append, map-set, map-map, map-same, map-count, map-select-at, map-move}
 use Rattle.def.specs.declared.Slot.{Slot}
 use Rattle.def.specs.State.{slots, noSlot, isMarked, unmarked}
 use Rattle.keys.specs.Keys.{keyMarked, keyUnmarked, slotAt}
@@ -47,8 +47,8 @@ picks-turn test keys picks i v h e so-far j l = by (lt-or-ge j i)
 -- the flags from place i on are those given
 kept-from : {A : Type 0} (picks flags : List Bool) (i : ℕ) (xs : List A) → length flags ≡ length xs
     → ((j : ℕ) → j < length flags → getD picks (i + j) false ≡ getD flags j false)
-    → count not flags ≡ length (selectAt (λ j x. not (flagged picks j x)) i xs)
-unfolding count selectAt
+    → countIf not flags ≡ length (selectAt (λ j x. not (flagged picks j x)) i xs)
+unfolding countIf selectAt
 kept-from picks [] i [] e h = refl
 kept-from picks [] i (x ∷ xs) e h = absurd (omega arith)
 kept-from picks (b ∷ flags) i [] e h = absurd (omega arith)
@@ -63,12 +63,12 @@ kept-from {A} picks (b ∷ flags) i (x ∷ xs) e h = rw here (pick b (kept-from 
     rest : List A
     rest = selectAt (λ j x. not (flagged picks j x)) (suc i) xs
 
-    pick : (b : Bool) → count not flags ≡ length rest → cond (not b) (suc (count not flags)) (count not flags) ≡ length (cond (not b) (x ∷ rest) rest)
+    pick : (b : Bool) → countIf not flags ≡ length rest → cond (not b) (suc (countIf not flags)) (countIf not flags) ≡ length (cond (not b) (x ∷ rest) rest)
     pick true k = k
     pick false k = ap suc k
 
 pub kept-count : {A : Type 0} (picks : List Bool) (xs : List A) → length picks ≡ length xs
-    → count not picks ≡ length (selectAt (λ j x. not (flagged picks j x)) 0 xs)
+    → countIf not picks ≡ length (selectAt (λ j x. not (flagged picks j x)) 0 xs)
 kept-count picks xs e = kept-from picks picks 0 xs e (λ j h. let z : 0 + j ≡ j = omega arith in rw z refl)
 
 -- ---- the sweep, for any test of slots
@@ -139,7 +139,7 @@ module _ (gap : ℕ) (keys : List ℕ) (picks : List Bool) (long : length keys �
   same : (rows : List ℕ) → map (slotAt rows) after-sweep ≡ sweep (outdated gap) (map (slotAt rows) keys)
   same rows = ap (map (slotAt rows)) (sweep-picks long p) ∙ sweep-same (outdated gap) rows keys
 
-  same-count : (rows ks : List ℕ) → count isMarked (map (slotAt rows) ks) ≡ count keyMarked ks
+  same-count : (rows ks : List ℕ) → countIf isMarked (map (slotAt rows) ks) ≡ countIf keyMarked ks
   same-count rows ks = map-count (slotAt rows) isMarked ks
 
   pub sweep-long : length after-sweep ≡ slots
@@ -150,7 +150,7 @@ module _ (gap : ℕ) (keys : List ℕ) (picks : List Bool) (long : length keys �
       ∙ length-map keys (slotAt keys)
       ∙ long
 
-  pub few-marked : count keyMarked after-sweep ≤ mostMarked → Marks gap keys after-sweep (count keyMarked after-sweep)
+  pub few-marked : countIf keyMarked after-sweep ≤ mostMarked → Marks gap keys after-sweep (countIf keyMarked after-sweep)
   unfolding marked
   few-marked h =
       record {
@@ -160,8 +160,8 @@ module _ (gap : ℕ) (keys : List ℕ) (picks : List Bool) (long : length keys �
         marks-long = sweep-long;
       }
 
-  pub many-marked : (fewer after : List ℕ) (notes : List Bool) → mostMarked < count keyMarked after-sweep
-      → Unmarks (count keyMarked after-sweep - mostMarked) after-sweep fewer notes → Walked notes fewer after → Marks gap keys after mostMarked
+  pub many-marked : (fewer after : List ℕ) (notes : List Bool) → mostMarked < countIf keyMarked after-sweep
+      → Unmarks (countIf keyMarked after-sweep - mostMarked) after-sweep fewer notes → Walked notes fewer after → Marks gap keys after mostMarked
   unfolding marked slide excess
   many-marked fewer after notes h u k =
       record {
@@ -169,7 +169,7 @@ module _ (gap : ℕ) (keys : List ℕ) (picks : List Bool) (long : length keys �
         marks-count =
             let left = slide-count (map (slotAt keys) after-sweep) (length-map after-sweep (slotAt keys) ∙ sweep-long) in
             let c = same-count keys after-sweep in
-            let d = ap (count isMarked) (slid keys) in
+            let d = ap (countIf isMarked) (slid keys) in
             let e = same-count keys after in
             omega arith;
         marks-long = k .walks-long;
@@ -177,7 +177,7 @@ module _ (gap : ℕ) (keys : List ℕ) (picks : List Bool) (long : length keys �
     where
       slid : (rows : List ℕ) → map (slotAt rows) after ≡ slide (map (slotAt rows) after-sweep)
       slid rows =
-          let n : ℕ = count keyMarked after-sweep - mostMarked in
+          let n : ℕ = countIf keyMarked after-sweep - mostMarked in
           let before : List Slot = map (slotAt rows) after-sweep in
           let e : n ≡ excess before = ap (λ (m : ℕ). m - mostMarked) (sym (same-count rows after-sweep)) in
           k .walks-slots rows

@@ -1,10 +1,10 @@
--- Document 01, "Store moves": marking without reference lists (`pic_marking_no_rpl`), and the flush (`picman_flush_pb`).
+-- Section 7 of the specification: marking without reference lists (`pic_marking_no_rpl`), and the flush (`picman_flush_pb`).
 -- Assumes nothing.
 use Prim.Native.Nat.{ℕ, zero, suc, _-_, _%_}
 use mathlib.Core.Bool.{Bool, true, false, cond, not, _&&_, _||_}
 use mathlib.Core.List.{List, [], _∷_, _++_, map}
 use lib.Dec.{ltb, eqb}
-use Rattle.seq.specs.Lists.{count, selectAt, moveTo}
+use Rattle.seq.specs.Lists.{countIf, selectAt, moveTo}
 use Rattle.def.specs.declared.Slot.{Slot}
 use Rattle.def.specs.declared.EvcPm.{EvcPm}
 use Rattle.def.specs.State.{noSlot, isMarked, unmarked, withStore}
@@ -32,8 +32,8 @@ sweep picks xs = swept unmarked picks xs
 
 -- Then, while 5 or more are marked, the first marked slot is unmarked and noted: so many of the first marked slots as are over 4.
 unfoldable pub excess : List Slot → ℕ
-unfolding count
-excess xs = count isMarked xs - mostMarked
+unfolding countIf
+excess xs = countIf isMarked xs - mostMarked
 
 unfoldable pub unmarkFirst : ℕ → List Slot → List Slot
 unmarkFirst n [] = []
@@ -67,7 +67,7 @@ unfolding sweep slide
 marked gap xs = slide (sweep (outdated gap) xs)
 
 abbrev pub withMarks : EvcPm → List Slot → EvcPm
-withMarks pm xs = withStore pm xs (pm .«pic_lease») (pm .«cur_pb_size») (count isMarked xs)
+withMarks pm xs = withStore pm xs (pm .«pic_lease») (pm .«cur_pb_size») (countIf isMarked xs)
 
 abbrev pub marking : ℕ → EvcPm → EvcPm
 marking gap pm = withMarks pm (marked gap (pm .pic))

@@ -6,7 +6,7 @@ use mathlib.Core.Bool.{Bool, false, not, _&&_, _||_}
 use mathlib.Core.List.{List, map}
 use lib.Dec.{ltb, eqb}
 use lib.ListN.{length, getD}
-use Rattle.seq.specs.Lists.{count}
+use Rattle.seq.specs.Lists.{countIf}
 use Rattle.def.specs.State.{slots}
 use Rattle.keys.specs.Keys.{keyMarked, keyLayer, keyNumber, keyUnmarked, slotAt}
 use Rattle.marking.specs.Marking.{swept, unmarkFirst, noteFirst, lastWalk, marked}
@@ -43,5 +43,5 @@ pub record Walked (notes : List Bool) (before after : List ℕ) : Type 0 where
 -- Marking, whole, and how many are marked after it.
 pub record Marks (gap : ℕ) (before after : List ℕ) (n : ℕ) : Type 0 where
   pub marks-slots : (rows : List ℕ) → map (slotAt rows) after ≡ marked gap (map (slotAt rows) before)
-  pub marks-count : n ≡ count keyMarked after
+  pub marks-count : n ≡ countIf keyMarked after
   pub marks-long : length after ≡ slots

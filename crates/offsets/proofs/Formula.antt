@@ -1,4 +1,4 @@
--- The signed offset, worked out in `f32` in the Rust's order of operations, is the whole number of document 01: no step rounds, and the cast keeps it.
+-- The signed offset, worked out in `f32` in the Rust's order of operations, is the whole number of the definition: no step rounds, and the cast keeps it.
 -- Assumes nothing.
 use mathlib.Core.Path.{_≡_, refl, sym, ap, _∙_}
 use Prim.Native.Nat.{ℕ, suc, _+_, _-_, _*_, _^_, _≤_, _<_}

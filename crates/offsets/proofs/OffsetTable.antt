@@ -18,8 +18,9 @@ use borrow.Author.Tests.{ne-eqb}
 use mir.Syntax.{w16, w32}
 use mir.Val.{toZ, ofZ, SFits}
 use mir.ValLaws.{toZ-ofZ}
-use Rattle.seq.specs.Numbers.{lt-or-ge}
-use Rattle.seq.specs.Table.{entries, entry}
+use Rattle.seq.proofs.Tests.{lt-or-ge}
+use Rattle.seq.specs.Lists.{entries}
+use Rattle.seq.proofs.Rows.{entry}
 use Rattle.def.specs.Binary.{floorLog2}
 use Rattle.poc.specs.Standard.{expectedTemporalId}
 use Rattle.poc.specs.Domain.{OfLayer, InTable, signedOffset}

@@ -8,7 +8,7 @@ use native.Mathlib.Omega.{arith}
 use lib.Dec.{eqb, ltb}
 use lib.ListN.{length}
 use borrow.Author.Tests.{eqb-true, ltb-true}
-use Rattle.seq.specs.All.{and-left, and-right}
+use Rattle.seq.proofs.Tests.{and-left, and-right}
 use Rattle.def.specs.State.{listPlaces}
 use Rattle.def.specs.declared.{Answer.Answer, CopyResult.CopyResult}
 use Rattle.keys.specs.Keys.{rowsLength, listsIn}
@@ -18,7 +18,7 @@ use Rattle.refp.specs.Copy.{copy}
 use Rattle.refp.specs.Running.{entryWith, CopyCame}
 use Rattle.machine.specs.Claims.{TurnedDown}
 use Rattle.machine.proofs.EveryCall.{refused-answer}
-use Rattle.one_entry.specs.OneEntry.{entryGiven, fits, Placed}
+use Rattle.one_entry.specs.OneEntry.{entryGiven, fits, EntryPlaced}
 
 pub fitting : (rows : List ℕ) (present : ℕ) (numbers : List ℕ) → fits rows present numbers ≡ true
     → (length rows ≡ rowsLength) × (length numbers ≡ listPlaces) × (present < 2)
@@ -39,7 +39,7 @@ entry-is present buf poc numbers f b =
     let byte : (2 * buf + present) / 2 % 256 ≡ buf = rw high (omega arith) in
     rw (low, byte) refl
 
-pub not-placed : {fit : Bool} (rows : List ℕ) (wanted : CopyResult) → fit ≡ false → Placed 18 fit rows rows wanted
+pub not-placed : {fit : Bool} (rows : List ℕ) (wanted : CopyResult) → fit ≡ false → EntryPlaced 18 fit rows rows wanted
 not-placed rows wanted e =
     record {
       gives = rw e;
@@ -53,7 +53,7 @@ not-placed rows wanted e =
 module _ (rows numbers : List ℕ) (cnt lidx present buf poc : ℕ) where
   pub placed : {head : ℕ} {got : List ℕ} {answer : Answer} {after : List ℕ} {r : Reply} → fits rows present numbers ≡ true → buf < 256
       → head ≡ 2 * buf + present → got ≡ numbers → CopyCame answer rows after (copy (listsIn rows) cnt lidx (entryWith head poc got)) → r ≡ replyOf 0 answer
-      → Placed (r .status) (fits rows present numbers) rows after (copy (listsIn rows) cnt lidx (entryGiven present buf poc numbers))
+      → EntryPlaced (r .status) (fits rows present numbers) rows after (copy (listsIn rows) cnt lidx (entryGiven present buf poc numbers))
   placed {head} {got} {answer} {after} e b h n came replied =
       let fit = fitting rows present numbers e in
       let entry : entryWith head poc got ≡ entryGiven present buf poc numbers = rw (h, n) (entry-is present buf poc numbers (fit .2) b) in

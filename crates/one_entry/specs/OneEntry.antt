@@ -22,7 +22,7 @@ abbrev pub fits : List ℕ → ℕ → List ℕ → Bool
 fits rows present numbers = (eqb (length rows) rowsLength && eqb (length numbers) listPlaces) && ltb present 2
 
 -- Where they fit the copy's own result, else 18; the pictures' list numbers stay, and a refusal's number has written nothing.
-pub record Placed (r : ℕ) (fit : Bool) (rows after : List ℕ) (wanted : CopyResult) : Type 0 where
+pub record EntryPlaced (r : ℕ) (fit : Bool) (rows after : List ℕ) (wanted : CopyResult) : Type 0 where
   pub gives : r ≡ cond fit (replyOf 0 (wanted .answer) .status) 18
   pub lists-are : fit ≡ true → listsIn after ≡ wanted .refp
   pub pictures-stay : PicturesStay rows after

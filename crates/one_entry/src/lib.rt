@@ -1,14 +1,14 @@
 // The copy of one entry, given by its fields, into the lists of the running machine. It has to do with the lists alone.
 use keys::ROW;
 use keys::ROWS;
-use sizing::BAD_LINE;
+use line::BAD_LINE;
 ghost use mathlib.Core.Path.{_≡_};
 ghost use Prim.Native.Nat.{_+_, _*_, _<_};
 ghost use lib.ListN.{length};
 ghost use Rattle.def.specs.State.{listPlaces};
 ghost use Rattle.keys.specs.Keys.{listsIn};
 ghost use Rattle.refp.specs.Copy.{copy};
-ghost use Rattle.one_entry.specs.OneEntry.{entryGiven, fits, Placed};
+ghost use Rattle.one_entry.specs.OneEntry.{entryGiven, fits, EntryPlaced};
 
 fn is_fit(rows: &[u32], present: u8, list_poc: &[u32]) -> bool
     ensures { λ r. ⌜ r ≡ fits (now (rows .entry)) present (now («list_poc» .entry)) ⌝ }
@@ -50,7 +50,7 @@ pub fn place_entry(
         let before = now (rows .entry) in
         let numbers = now («list_poc» .entry) in
         let wanted = copy (listsIn before) cnt lidx (entryGiven present buf poc numbers) in
-        ⌜ Placed r (fits before present numbers) before (now (rows .exit)) wanted ⌝ }
+        ⌜ EntryPlaced r (fits before present numbers) before (now (rows .exit)) wanted ⌝ }
 {
     if !is_fit(rows, present, list_poc) {
         return BAD_LINE;

@@ -10,9 +10,9 @@ use lib.Dec.{ltb, leb}
 use lib.ListN.{length, getD, take, drop, List·getD-eq-default}
 use lib.Seq.{drop-cons}
 use borrow.Author.Tests.{eqb-true, ne-eqb, leb-true, leb-false, lt-ltb}
-use Rattle.seq.specs.Lists.{all, lowest}
-use Rattle.seq.specs.All.{and-left, and-right}
-use Rattle.seq.specs.Lowest.{lowest-hit, lowest-miss}
+use Rattle.seq.specs.Lists.{allOf, lowest}
+use Rattle.seq.proofs.Tests.{and-left, and-right}
+use Rattle.seq.proofs.Walks.{lowest-hit, lowest-miss}
 use Rattle.hex.specs.Hex.{isDigit, digitValue, charValue, bytesOf}
 use Rattle.hex.specs.Frame.{byteAt}
 use Rattle.buffer.specs.Buffer.{isNewline}
@@ -70,14 +70,14 @@ and-three true b c = refl
 and-three false b c = refl
 
 -- n pairs of digits are 2 n digits, and the bytes are theirs.
-pub pairs-hex : (cs : List ℕ) (i n : ℕ) → i + 2 * n ≤ length cs → all isDigit (take (2 * n) (drop i cs)) ≡ arePairs cs i n
-unfolding all arePairs
+pub pairs-hex : (cs : List ℕ) (i n : ℕ) → i + 2 * n ≤ length cs → allOf isDigit (take (2 * n) (drop i cs)) ≡ arePairs cs i n
+unfolding allOf arePairs
 pairs-hex cs i zero h = refl
 pairs-hex cs i (suc n) h =
     let k : i + 1 < length cs = omega arith in
-    let r : all isDigit (take (2 * n) (drop (i + 2) cs)) ≡ arePairs cs (i + 2) n = pairs-hex cs (i + 2) n (omega arith) in
-    ap (all isDigit) (take-two cs i n k)
-    ∙ and-three (isDigit (getD cs i 0)) (isDigit (getD cs (i + 1) 0)) (all isDigit (take (2 * n) (drop (i + 2) cs)))
+    let r : allOf isDigit (take (2 * n) (drop (i + 2) cs)) ≡ arePairs cs (i + 2) n = pairs-hex cs (i + 2) n (omega arith) in
+    ap (allOf isDigit) (take-two cs i n k)
+    ∙ and-three (isDigit (getD cs i 0)) (isDigit (getD cs (i + 1) 0)) (allOf isDigit (take (2 * n) (drop (i + 2) cs)))
     ∙ ap (λ (b : Bool). isPair cs i && b) r
 
 pub pairs-bytes : (cs : List ℕ) (i n : ℕ) → i + 2 * n ≤ length cs → arePairs cs i n ≡ true → bytesOf (take (2 * n) (drop i cs)) ≡ pairsAt cs i n

@@ -11,7 +11,7 @@ use Rattle.hex.specs.Hex.{sum8}
 use Rattle.hex.specs.Frame.{wordAt}
 use Rattle.hex.proofs.HexLaws.{not-second, sum8-append}
 use Rattle.buffer.specs.Buffer.{isNewline}
-use Rattle.pairs.specs.Pairs.{isPair, pairAt, arePairs, pairsAt, isLineAt, quadOf, Opened, Summed, Checked}
+use Rattle.pairs.specs.Pairs.{isPair, pairAt, arePairs, pairsAt, isLineAt, quadOf, Opened, Summed, PairsChecked}
 use Rattle.pairs.proofs.Places.{pair-entry, pairs-append, pairs-both}
 
 sums : (a b x : ℕ) → ((a + b) % 256 + x) % 256 % 256 ≡ (a + (b + x) % 256) % 256
@@ -77,7 +77,7 @@ module _ {cs : List ℕ} {i : ℕ} where
 
 -- The check byte and the newline.
 pub ends : (cs : List ℕ) (at sum r : ℕ) (good : Bool) → r ≡ (sum + pairAt cs at) % 256
-    → Checked cs at sum good (((good && isPair cs at) && eqb r 0) && isNewline (getD cs (at + 2) 0))
+    → PairsChecked cs at sum good (((good && isPair cs at) && eqb r 0) && isNewline (getD cs (at + 2) 0))
 ends cs at sum r good e i m f s =
     let t = summed-pair at r f s e in
     let one : m + 1 ≡ suc m = omega arith in

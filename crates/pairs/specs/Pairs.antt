@@ -54,8 +54,8 @@ pub record Summed (cs : List ℕ) (i m sum : ℕ) (good : Bool) : Type 0 where
   pub digits : good ≡ arePairs cs i m
 
 -- The check byte and the newline stand at a place: whatever m bytes stand before it, it says whether they are a line.
-abbrev pub Checked : List ℕ → ℕ → ℕ → Bool → Bool → Type 0
-Checked cs at sum good r = (i m : ℕ) → at ≡ i + 2 * m → Summed cs i m sum good → r ≡ isLineAt cs i (suc m)
+abbrev pub PairsChecked : List ℕ → ℕ → ℕ → Bool → Bool → Type 0
+PairsChecked cs at sum good r = (i m : ℕ) → at ≡ i + 2 * m → Summed cs i m sum good → r ≡ isLineAt cs i (suc m)
 
 -- A line with two bytes behind the call byte.
 pub record TwoSeen (cs : List ℕ) (i : ℕ) (t : Two) : Type 0 where

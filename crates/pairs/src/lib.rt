@@ -8,9 +8,9 @@ ghost use mathlib.Core.Path.{_≡_};
 ghost use mathlib.Core.Bool.{true};
 ghost use Prim.Native.Nat.{_+_, _*_, _/_, _%_, _≤_, _<_};
 ghost use lib.ListN.{length, take};
-ghost use Rattle.seq.specs.Lists.{all};
+ghost use Rattle.seq.specs.Lists.{allOf};
 ghost use Rattle.hex.specs.Hex.{isDigit, bytesOf, charValue, digitTables};
-ghost use Rattle.pairs.specs.Pairs.{isLineAt, pairOf, quadOf, Opened, Checked, TwoSeen, FieldsSeen};
+ghost use Rattle.pairs.specs.Pairs.{isLineAt, pairOf, quadOf, Opened, PairsChecked, TwoSeen, FieldsSeen};
 
 // The byte that two characters stand for, and whether they are digits.
 pub struct Pair {
@@ -45,7 +45,7 @@ pub struct Fields {
 // Writes the bytes that pairs of digits stand for, up to the first pair that is not two digits; says whether all are.
 pub fn decode(digits: &[u8], bytes: &mut [u8]) -> bool
     requires { ⌜ (length (now digits) ≤ 2 * length (now bytes)) × (length (now digits) % 2 ≡ 0) ⌝ }
-    ensures hex { λ r. ⌜ r ≡ all isDigit (now (digits .entry)) ⌝ }
+    ensures hex { λ r. ⌜ r ≡ allOf isDigit (now (digits .entry)) ⌝ }
     ensures bytes { λ r. ⌜ (r ≡ true → take (length (now (digits .entry)) / 2) (now (bytes .exit)) ≡ bytesOf (now (digits .entry))) ⌝ }
 {
     let n = digits.len() / 2;
@@ -105,7 +105,7 @@ fn quad_at(tables: &[u16; TABLE_SIZE], buffer: &[u8], at: usize) -> Quad
 // Whether a line ends here: the check byte, which brings the sum to zero, and the newline.
 pub fn check_at(tables: &[u16; TABLE_SIZE], buffer: &[u8], at: usize, sum: u8, good: bool) -> bool
     requires { ⌜ (now tables ≡ digitTables) × (at + 2 < length (now buffer)) ⌝ }
-    ensures { λ r. ⌜ Checked (now (buffer .entry)) at sum good r ⌝ }
+    ensures { λ r. ⌜ PairsChecked (now (buffer .entry)) at sum good r ⌝ }
 {
     let check = pair_at(tables, buffer, at);
     good & check.good & (plus(sum, check.byte) == 0) & (buffer[at + 2] == b'\n')

@@ -7,7 +7,7 @@ use lib.Dec.{ltb}
 use lib.ListN.{length}
 use borrow.Author.Tests.{le-ltb}
 use Rattle.seq.specs.Lists.{select}
-use Rattle.seq.specs.Reverse.{select-reverse}
+use Rattle.seq.proofs.Orders.{select-reverse}
 use Rattle.passes.specs.declared.Walk.{Walk}
 use Rattle.ordering.specs.Order.{Key}
 use Rattle.passes.specs.Passes.{Ask, Progress, takesKey, walked, stepOn, passOn, pass, bothWays, listOf}

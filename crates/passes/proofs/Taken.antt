@@ -11,11 +11,11 @@ use lib.Dec.{leb, ltb}
 use lib.ListN.{length, length-append}
 use lib.Seq.{take-at}
 use borrow.Author.Tests.{ltb-true}
-use Rattle.seq.specs.Lists.{count, Distinct}
-use Rattle.seq.specs.Members.{holds-cons}
-use Rattle.seq.specs.All.{and-left, and-right, count-length}
-use Rattle.seq.specs.Distinct.{distinct-append}
-use Rattle.seq.specs.Sublists.{sublist-mem, sublist-distinct, sublist-count}
+use Rattle.seq.specs.Lists.{countIf, Distinct}
+use Rattle.seq.proofs.Members.{holds-cons}
+use Rattle.seq.proofs.Tests.{and-left, and-right, count-length}
+use Rattle.seq.proofs.Distinct.{distinct-append}
+use Rattle.seq.proofs.Orders.{sublist-mem, sublist-distinct, sublist-count}
 use Rattle.ordering.specs.Order.{Key}
 use Rattle.passes.specs.declared.Walk.{Walk}
 use Rattle.passes.specs.Passes.{Ask, Progress, sideOf, walked, takesKey, stepOn, passOn, pass, bothWays, listOf}
@@ -95,7 +95,7 @@ unfolding Distinct
 none-taken limit ks = record { members = λ k m. absurd (List·Memᴰ·not-nil m); once = λ d. tt; limited = omega arith; few = omega arith }
 
 module _ (a : Ask) (up : Bool) (ks : List Key) where
-  more-few : {list out : List Key} (g : Grown a up (walked up ks) list out) → length (g .more) ≤ count (sideOf up (a .poc)) ks
+  more-few : {list out : List Key} (g : Grown a up (walked up ks) list out) → length (g .more) ≤ countIf (sideOf up (a .poc)) ks
   more-few g = let h = sublist-count (sideOf up (a .poc)) (g .inside) (g .on-side) in let e = walked-count up (sideOf up (a .poc)) ks in omega arith
 
   one-pass : {out : List Key} → Grown a up (walked up ks) [] out → Taken (a .limit) ks out

@@ -6,9 +6,8 @@ use mathlib.Core.List.{List, List·Memᴰ}
 use Prim.Native.Nat.{ℕ, _<_}
 use native.Mathlib.Omega.{arith}
 use lib.ListN.{length, getD, length-reverse}
-use Rattle.seq.specs.Lists.{count, Distinct}
-use Rattle.seq.specs.Reverse.{getD-reverse, count-reverse, mem-reverse}
-use Rattle.seq.specs.Sublists.{distinct-reverse}
+use Rattle.seq.specs.Lists.{countIf, Distinct}
+use Rattle.seq.proofs.Orders.{getD-reverse, count-reverse, mem-reverse, distinct-reverse}
 use Rattle.passes.specs.InNumbers.{placeOf}
 use Rattle.ordering.specs.Order.{Key}
 use Rattle.passes.specs.Passes.{walked}
@@ -17,7 +16,7 @@ pub walked-length : (up : Bool) (ks : List Key) → length (walked up ks) ≡ le
 walked-length true ks = length-reverse ks
 walked-length false ks = refl
 
-pub walked-count : (up : Bool) (p : Key → Bool) (ks : List Key) → count p (walked up ks) ≡ count p ks
+pub walked-count : (up : Bool) (p : Key → Bool) (ks : List Key) → countIf p (walked up ks) ≡ countIf p ks
 walked-count true p ks = count-reverse p ks
 walked-count false p ks = refl
 

@@ -6,7 +6,7 @@ use mathlib.Core.Bool.{Bool, cond}
 use mathlib.Core.List.{List}
 use lib.Dec.{ltb}
 use lib.ListN.{length, take, drop}
-use Rattle.seq.specs.Lists.{count}
+use Rattle.seq.specs.Lists.{countIf}
 use Rattle.def.specs.State.{slots, listPlaces}
 use Rattle.ordering.specs.Order.{Key}
 use Rattle.ordering.specs.InNumbers.{keysIn}
@@ -47,14 +47,14 @@ pub record PassRoom (pics : List ℕ) (num : ℕ) (list : List ℕ) (from cnt : 
   pub list-long : length list ≡ listPlaces + listPlaces
   pub few : num ≤ slots
   pub starts : from ≤ listPlaces
-  pub room : cnt + count (sideOf up (rule .poc)) (keysIn num pics) ≤ listPlaces
+  pub room : cnt + countIf (sideOf up (rule .poc)) (keysIn num pics) ≤ listPlaces
 
 -- The first `n` entries from `from` on are the list after the pass; what stands before them is untouched.
 pub record PassDone (n : ℕ) (ks : List Key) (before after : List ℕ) (from cnt : ℕ) (rule : PassRule) (up : Bool) : Type 0 where
   pub comes-to : keysIn n (drop from after) ≡ pass (askIn rule) up ks (keysIn cnt (drop from before))
   pub kept : take from after ≡ take from before
   pub list-long : length after ≡ listPlaces + listPlaces
-  pub counted : n ≤ cnt + count (sideOf up (rule .poc)) ks
+  pub counted : n ≤ cnt + countIf (sideOf up (rule .poc)) ks
 
 pub record PassesRoom (pics : List ℕ) (num : ℕ) (list : List ℕ) (from : ℕ) : Type 0 where
   pub keys-long : length pics ≡ slots

@@ -13,8 +13,8 @@ use lib.Dec.{ltb}
 use lib.ListN.{length, length-append, take, drop}
 use lib.Seq.{sets, sets-eq, length-sets, take-all, paste}
 use borrow.Author.Tests.{lt-ltb, le-ltb}
-use Rattle.seq.specs.Numbers.{lt-or-ge}
-use Rattle.seq.specs.Stores.{sets-append}
+use Rattle.seq.proofs.Tests.{lt-or-ge}
+use Rattle.seq.proofs.Stores.{sets-append}
 use Rattle.io.specs.Digits.{digits, glyph, Fewest}
 use Rattle.phrases.specs.Phrases.{Added, decimalFrom}
 

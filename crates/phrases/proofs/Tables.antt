@@ -7,7 +7,8 @@ use mathlib.Core.List.{List, []}
 use lib.Dec.{leb}
 use lib.ListN.{getD}
 use borrow.Author.Tests.{leb-true}
-use Rattle.seq.specs.Table.{entries, entry}
+use Rattle.seq.specs.Lists.{entries}
+use Rattle.seq.proofs.Rows.{entry}
 use Rattle.phrases.specs.Phrases.{entryOf}
 
 module _ (table lengths : List ℕ) (width n : ℕ) where

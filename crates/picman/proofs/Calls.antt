@@ -7,7 +7,7 @@ use native.Mathlib.Omega.{arith}
 use Rattle.def.specs.declared.{PmResult.PmResult, Answer.Answer, Refusal.Refusal}
 use Rattle.keys.specs.declared.{Rest.Rest, Called.Called}
 use Rattle.keys.specs.Keys.{listsIn, stands, Sized, Comes}
-use Rattle.picman.specs.Get.{refused}
+use Rattle.picman.specs.Get.{pmRefused}
 use Rattle.picman.specs.OnKeys.{turnedDown, Calls}
 
 pub calls-by : {r : Called} {keys rows : List ℕ} {rest : Rest} {keys′ rows′ : List ℕ} {a b : PmResult} → a ≡ b
@@ -15,7 +15,7 @@ pub calls-by : {r : Called} {keys rows : List ℕ} {rest : Rest} {keys′ rows�
 calls-by {r} {keys} {rows} {rest} {keys′} {rows′} e c = subst (λ (x : PmResult). Calls r keys rows rest keys′ rows′ x) (sym e) c
 
 pub calls-refused : (why : Refusal) (keys rows : List ℕ) (rest : Rest) → Sized keys rows
-    → Calls (turnedDown why rest) keys rows rest keys rows (refused why (stands keys rows rest))
+    → Calls (turnedDown why rest) keys rows rest keys rows (pmRefused why (stands keys rows rest))
 calls-refused why keys rows rest s =
     record {
       comes = record { answers = refl; stands-for = refl; lists-stay = refl; still-sized = s };

@@ -10,20 +10,18 @@ use lib.Dec.{eqb}
 use lib.ListN.{length, getD}
 use borrow.Author.Tests.{not-true}
 use mir.Val.{boolByte}
-use Rattle.seq.specs.Lists.{all, any, count, lowest, removeAt, Distinct}
-use Rattle.seq.specs.All.{and-left, and-right}
-use Rattle.seq.specs.Reorder.{reordered-all}
-use Rattle.seq.specs.Lowest.{lowest-passes, any-found}
-use Rattle.seq.specs.Changes.{remove-length, remove-reordered, count-last}
-use Rattle.seq.specs.Tallies.{count-one}
-use Rattle.seq.specs.Often.{SameNumbers, same-mem, same-distinct}
+use Rattle.seq.specs.Lists.{allOf, anyOf, countIf, lowest, removeAt, Distinct, SameNumbers}
+use Rattle.seq.proofs.Tests.{and-left, and-right, count-one}
+use Rattle.seq.proofs.Orders.{reordered-all, remove-length, remove-reordered, count-last}
+use Rattle.seq.proofs.Walks.{lowest-passes, any-found}
+use Rattle.seq.proofs.Distinct.{same-mem, same-distinct}
 use Rattle.def.specs.declared.Slot.{Slot}
 use Rattle.def.specs.declared.EvcPm.{EvcPm}
 use Rattle.def.specs.declared.PmResult.{PmResult}
-use Rattle.def.specs.State.{slots, newPic, emptySlot, noSlot, held, isPresent, isMarked, isIdle}
+use Rattle.def.specs.State.{slots, newPic, emptySlot, noSlot, occupiedBy, isPresent, isMarked, isIdle}
 use Rattle.whole.specs.Whole.{buffersOf, whole, places, heldBuffers, zeroIfEmpty, pocFits}
-use Rattle.whole.specs.Laws.{rule, whole-rules, free-buffer-below, free-buffer-not-held}
-use Rattle.whole.specs.Holding.{holds, buffers-passing}
+use Rattle.whole.proofs.Laws.{rule, whole-rules, free-buffer-below, free-buffer-not-held}
+use Rattle.whole.proofs.Holding.{holds, buffers-passing}
 use Rattle.picman.specs.Claims.{Pictures, GetKeepsWhole, GetPictures, GetKeepsSize}
 use Rattle.picman.specs.Get.{reuse, freeBuffer, fresh}
 use Rattle.picman.proofs.GetLaws.{Gets, not-whole, leased, idle, full, made, gets}
@@ -31,10 +29,10 @@ use Rattle.picman.proofs.Keeps.{store-holds, store-whole, all-places, s
 
 module _ (pm : EvcPm) (w : whole pm ≡ true) (size : length (pm .pic) ≡ slots) (free : pm .«pic_lease» .present ≡ false) where
   -- no picture is leased: the slots hold them all
-  no-lease : (p : Slot → Bool) → p (pm .«pic_lease») ≡ false → count p (places pm) ≡ count p (pm .pic)
+  no-lease : (p : Slot → Bool) → p (pm .«pic_lease») ≡ false → countIf p (places pm) ≡ countIf p (pm .pic)
   no-lease p e = omega (arith, count-last p (pm .pic) (pm .«pic_lease»), ap boolByte e)
 
-  held-slots : (b : ℕ) → count (eqb b) (heldBuffers pm) ≡ count (holds (eqb b)) (pm .pic)
+  held-slots : (b : ℕ) → countIf (eqb b) (heldBuffers pm) ≡ countIf (holds (eqb b)) (pm .pic)
   held-slots b = buffers-passing (eqb b) (places pm) ∙ no-lease (holds (eqb b)) (rw free)
 
   -- ---- the lowest idle picture is taken out
@@ -47,11 +45,11 @@ module _ (pm : EvcPm) (w : whole pm ≡ true) (size : length (pm .pic) ≡ slots
     left = removeAt emptySlot i (pm .pic)
 
     -- of a test that an empty slot fails, the picture is counted apart
-    one-less : (p : Slot → Bool) → p emptySlot ≡ false → count p (left ++ (taken ∷ [])) ≡ count p (pm .pic)
+    one-less : (p : Slot → Bool) → p emptySlot ≡ false → countIf p (left ++ (taken ∷ [])) ≡ countIf p (pm .pic)
     one-less p e = omega (arith, remove-reordered noSlot emptySlot i (pm .pic) (omega arith) p, count-last p (pm .pic) emptySlot, ap boolByte e)
 
     -- what an empty slot passes too is passed by all
-    taken-all : (p : Slot → Bool) → all p (emptySlot ∷ []) ≡ true → all p (places pm) ≡ true → all p (left ++ (taken ∷ [])) ≡ true
+    taken-all : (p : Slot → Bool) → allOf p (emptySlot ∷ []) ≡ true → allOf p (places pm) ≡ true → allOf p (left ++ (taken ∷ [])) ≡ true
     taken-all p z e =
         reordered-all (pm .pic ++ (emptySlot ∷ [])) (left ++ (taken ∷ [])) (remove-reordered noSlot emptySlot i (pm .pic) (omega arith)) p
         (all-places p (pm .pic) emptySlot (slots-pass p (pm .pic) (pm .«pic_lease») e) z)
@@ -60,7 +58,7 @@ module _ (pm : EvcPm) (w : whole pm ≡ true) (size : length (pm .pic) ≡ slots
     reuse-held b = buffers-passing (eqb b) (left ++ (taken ∷ [])) ∙ one-less (holds (eqb b)) refl ∙ sym (held-slots b)
 
     pub reuse-whole : whole (reuse pm i .pm) ≡ true
-    unfolding all
+    unfolding allOf
     reuse-whole =
         store-whole pm w left taken (pm .«cur_pb_size» - 1) (pm .«cur_num_ref_pics»)
         (omega (arith, one-less isPresent refl, count-last isPresent left taken, ap boolByte present, whole-rules pm w .size-matches))
@@ -83,7 +81,7 @@ module _ (pm : EvcPm) (w : whole pm ≡ true) (size : length (pm .pic) ≡ slots
 
   -- ---- a new picture is made
 
-  module _ (room : count isPresent (pm .pic) < pm .«max_pb_size») where
+  module _ (room : countIf isPresent (pm .pic) < pm .«max_pb_size») where
     pub fresh-in-range : freeBuffer pm < slots
     fresh-in-range = free-buffer-below pm (let m = whole-rules pm w .store-size in omega arith)
 
@@ -95,7 +93,7 @@ module _ (pm : EvcPm) (w : whole pm ≡ true) (size : length (pm .pic) ≡ slots
     -- its buffer number is held besides those of before
     pub fresh-held : SameNumbers (freeBuffer pm ∷ heldBuffers pm) (heldBuffers (fresh pm .pm))
     fresh-held b =
-        let new = held newPic (freeBuffer pm) in
+        let new = occupiedBy newPic (freeBuffer pm) in
         omega (arith, buffers-passing (eqb b) (pm .pic ++ (new ∷ [])), count-last (holds (eqb b)) (pm .pic) new, held-slots b, count-one (eqb b) (freeBuffer pm) (heldBuffers pm))
 
     fresh-below : (b : ℕ) → List·Memᴰ b (heldBuffers (fresh pm .pm)) → b < slots
@@ -108,9 +106,9 @@ module _ (pm : EvcPm) (w : whole pm ≡ true) (size : length (pm .pic) ≡ slots
     fresh-differ = same-distinct (freeBuffer pm ∷ heldBuffers pm) (heldBuffers (fresh pm .pm)) fresh-held (fresh-not-held, whole-rules pm w .buffers-differ)
 
     pub fresh-whole : whole (fresh pm .pm) ≡ true
-    unfolding all
+    unfolding allOf
     fresh-whole =
-        let new = held newPic (freeBuffer pm) in
+        let new = occupiedBy newPic (freeBuffer pm) in
         store-holds pm w (pm .pic) new (pm .«cur_pb_size») (pm .«cur_num_ref_pics»)
         (whole-rules pm w .size-matches)
         (whole-rules pm w .references-match)
@@ -121,7 +119,7 @@ module _ (pm : EvcPm) (w : whole pm ≡ true) (size : length (pm .pic) ≡ slots
 
 -- ---- every get
 
-module _ (pm : EvcPm) (size : length (pm .pic) ≡ slots) (some : any isIdle (pm .pic) ≡ true) where
+module _ (pm : EvcPm) (size : length (pm .pic) ≡ slots) (some : anyOf isIdle (pm .pic) ≡ true) where
   idle-in : lowest isIdle (pm .pic) < slots
   idle-in = omega (arith, any-found isIdle (pm .pic) some)
 

@@ -6,7 +6,7 @@ use mathlib.Core.Bool.{Bool, true, false, cond, not}
 use native.Mathlib.Omega.{arith}
 use lib.Dec.{leb}
 use borrow.Author.Tests.{leb-true, leb-false}
-use Rattle.seq.specs.Lists.{any, count, lowest}
+use Rattle.seq.specs.Lists.{anyOf, countIf, lowest}
 use Rattle.def.specs.declared.EvcPm.{EvcPm}
 use Rattle.def.specs.declared.PmResult.{PmResult}
 use Rattle.def.specs.declared.Answer.the-variants.{Refused}
@@ -14,28 +14,28 @@ use Rattle.def.specs.declared.Refusal.{Refusal}
 use Rattle.def.specs.declared.Refusal.the-variants.{StoreFull, PictureLeased, StateNotWhole}
 use Rattle.def.specs.State.{isPresent, isIdle}
 use Rattle.whole.specs.Whole.{whole}
-use Rattle.picman.specs.Get.{refused, reuse, fresh, getWhole, get}
+use Rattle.picman.specs.Get.{pmRefused, reuse, fresh, getWhole, get}
 use Rattle.picman.specs.Claims.{GetTurnedDown, GetWhy, GetRefused}
 use Rattle.picman.proofs.GetCases.{get-leased, get-none-idle, new-full}
 
 -- The cases of a get, each with its condition and what it gives.
 pub data Gets (pm : EvcPm) : PmResult → Type 0 where
-  not-whole : whole pm ≡ false → Gets pm (refused StateNotWhole pm)
-  leased : whole pm ≡ true → pm .«pic_lease» .present ≡ true → Gets pm (refused PictureLeased pm)
-  idle : whole pm ≡ true → pm .«pic_lease» .present ≡ false → any isIdle (pm .pic) ≡ true → Gets pm (reuse pm (lowest isIdle (pm .pic)))
-  full : whole pm ≡ true → pm .«pic_lease» .present ≡ false → any isIdle (pm .pic) ≡ false → pm .«max_pb_size» ≤ count isPresent (pm .pic)
-      → Gets pm (refused StoreFull pm)
-  made : whole pm ≡ true → pm .«pic_lease» .present ≡ false → any isIdle (pm .pic) ≡ false → count isPresent (pm .pic) < pm .«max_pb_size»
+  not-whole : whole pm ≡ false → Gets pm (pmRefused StateNotWhole pm)
+  leased : whole pm ≡ true → pm .«pic_lease» .present ≡ true → Gets pm (pmRefused PictureLeased pm)
+  idle : whole pm ≡ true → pm .«pic_lease» .present ≡ false → anyOf isIdle (pm .pic) ≡ true → Gets pm (reuse pm (lowest isIdle (pm .pic)))
+  full : whole pm ≡ true → pm .«pic_lease» .present ≡ false → anyOf isIdle (pm .pic) ≡ false → pm .«max_pb_size» ≤ countIf isPresent (pm .pic)
+      → Gets pm (pmRefused StoreFull pm)
+  made : whole pm ≡ true → pm .«pic_lease» .present ≡ false → anyOf isIdle (pm .pic) ≡ false → countIf isPresent (pm .pic) < pm .«max_pb_size»
       → Gets pm (fresh pm)
 
 module _ (pm : EvcPm) where
   gets-whole : whole pm ≡ true → Gets pm (getWhole pm)
   unfolding getWhole
-  gets-whole w = pick (pm .«pic_lease» .present) refl (any isIdle (pm .pic)) refl (leb (pm .«max_pb_size») (count isPresent (pm .pic))) refl
+  gets-whole w = pick (pm .«pic_lease» .present) refl (anyOf isIdle (pm .pic)) refl (leb (pm .«max_pb_size») (countIf isPresent (pm .pic))) refl
     where
-      pick : (l : Bool) → pm .«pic_lease» .present ≡ l → (i : Bool) → any isIdle (pm .pic) ≡ i
-          → (f : Bool) → leb (pm .«max_pb_size») (count isPresent (pm .pic)) ≡ f
-          → Gets pm (cond l (refused PictureLeased pm) (cond i (reuse pm (lowest isIdle (pm .pic))) (cond f (refused StoreFull pm) (fresh pm))))
+      pick : (l : Bool) → pm .«pic_lease» .present ≡ l → (i : Bool) → anyOf isIdle (pm .pic) ≡ i
+          → (f : Bool) → leb (pm .«max_pb_size») (countIf isPresent (pm .pic)) ≡ f
+          → Gets pm (cond l (pmRefused PictureLeased pm) (cond i (reuse pm (lowest isIdle (pm .pic))) (cond f (pmRefused StoreFull pm) (fresh pm))))
       pick true l i g f h = leased w l
       pick false l true g f h = idle w l g
       pick false l false g true h = full w l g (leb-true _ _ h)
@@ -45,7 +45,7 @@ module _ (pm : EvcPm) where
   unfolding get
   gets = pick (whole pm) refl
     where
-      pick : (b : Bool) → whole pm ≡ b → Gets pm (cond (not b) (refused StateNotWhole pm) (getWhole pm))
+      pick : (b : Bool) → whole pm ≡ b → Gets pm (cond (not b) (pmRefused StateNotWhole pm) (getWhole pm))
       pick true w = gets-whole w
       pick false w = not-whole w
 

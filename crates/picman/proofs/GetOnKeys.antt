@@ -2,19 +2,18 @@
 -- Assumes nothing.
 use mathlib.Core.Path.{_≡_, refl, sym, ap, _∙_, subst}
 use mathlib.Core.Bool.{true, false}
-use mathlib.Core.List.{List, [], _∷_, map, List·Memᴰ, Memᴰ·append-left}
+use mathlib.Core.List.{List, [], _∷_, map, List·Memᴰ, Memᴰ·append-left, Memᴰ·map}
 use Prim.Native.Nat.{ℕ, _*_, _<_, _≤_}
 use native.Mathlib.Omega.{arith}
 use lib.ListN.{length, getD, replicate}
 use lib.Seq.{paste, length-paste}
-use Rattle.seq.specs.Lists.{any, count, lowest, removeAt, smallestNotIn}
-use Rattle.seq.specs.Smallest.{smallest}
-use Rattle.seq.specs.Maps.{map-at}
-use Rattle.seq.specs.All.{and-left}
-use Rattle.seq.specs.Lowest.{lowest-passes, found-any, lowest-none}
-use Rattle.seq.specs.Changes.{getD-mem, remove-length}
-use Rattle.seq.specs.Members.{mem-map}
-use Rattle.seq.specs.Commute.{map-lowest, map-any, map-remove}
+use Rattle.seq.specs.Lists.{anyOf, countIf, lowest, removeAt, smallestNotIn}
+use Rattle.seq.proofs.Smallest.{smallest}
+use Rattle.seq.proofs.Members.{map-at, mem-at}
+use Rattle.seq.proofs.Tests.{and-left}
+use Rattle.seq.proofs.Walks.{lowest-passes, found-any, lowest-none}
+use Rattle.seq.proofs.Orders.{remove-length}
+use Rattle.seq.proofs.Maps.{map-lowest, map-any, map-remove}
 use Rattle.def.specs.declared.{Answer.Answer, Refusal.Refusal}
 use Rattle.def.specs.State.{slots, highestPoc, noSlot, isIdle, isPresent}
 use Rattle.keys.specs.declared.Rest.{Rest}
@@ -24,7 +23,7 @@ use Rattle.keys.proofs.KeyLaws.{slot-new, slots-unseen, buffers-same}
 use Rattle.keys.proofs.ListRows.{lists-stay}
 use Rattle.store.specs.Search.{keyFree}
 use Rattle.whole.specs.Whole.{whole}
-use Rattle.whole.specs.Laws.{whole-rules, free-buffer-below}
+use Rattle.whole.proofs.Laws.{whole-rules, free-buffer-below}
 use Rattle.picman.specs.Get.{reuse, freeBuffer, shown, getNew, getWhole}
 use Rattle.picman.specs.OnKeys.{turnedDown, keyReused, keyLeased, Calls}
 use Rattle.picman.proofs.GetCases.{get-leased, get-idle, get-none-idle, new-full, new-fresh, idle-occupied}
@@ -44,7 +43,7 @@ module _ (keys rows : List ℕ) (rest : Rest) (sized : Sized keys rows) (w : who
       idle : keyIdle (getD keys (lowest keyIdle keys) 0) ≡ true
       idle = lowest-passes 0 keyIdle keys (omega (arith, sized .slots-long))
 
-      some : any isIdle (map (slotAt rows) keys) ≡ true
+      some : anyOf isIdle (map (slotAt rows) keys) ≡ true
       some = map-any (slotAt rows) isIdle keys ∙ found-any keyIdle keys (omega (arith, sized .slots-long))
 
       pub reuse-size : 0 < rest .«cur_pb_size»
@@ -54,7 +53,7 @@ module _ (keys rows : List ℕ) (rest : Rest) (sized : Sized keys rows) (w : who
       reuse-number =
           let k : ℕ = getD keys (lowest keyIdle keys) 0 in
           let m : List·Memᴰ (slotAt rows k) (map (slotAt rows) keys) =
-          mem-map (slotAt rows) (getD-mem 0 keys (lowest keyIdle keys) (omega (arith, sized .slots-long))) in
+          Memᴰ·map (slotAt rows) (mem-at keys (lowest keyIdle keys) 0 (omega (arith, sized .slots-long))) in
           whole-rules (stands keys rows rest) w .numbers-fit (slotAt rows k) (Memᴰ·append-left (slotAt rows (rest .lease) ∷ []) m) (and-left (keyPresent k) _ idle)
 
       pub on-idle : Calls (keyReused keys rest (lowest keyIdle keys)) keys rows rest (removeAt 0 (lowest keyIdle keys) keys) rows (getWhole (stands keys rows rest))
@@ -76,7 +75,7 @@ module _ (keys rows : List ℕ) (rest : Rest) (sized : Sized keys rows) (w : who
       new : getWhole (stands keys rows rest) ≡ getNew (stands keys rows rest)
       new = get-none-idle (stands keys rows rest) free (map-any (slotAt rows) isIdle keys ∙ lowest-none 0 keyIdle keys (omega (arith, sized .slots-long)))
 
-      size : rest .«cur_pb_size» ≡ count isPresent (map (slotAt rows) keys)
+      size : rest .«cur_pb_size» ≡ countIf isPresent (map (slotAt rows) keys)
       size = whole-rules (stands keys rows rest) w .size-matches
 
       pub on-full : rest .«max_pb_size» ≤ rest .«cur_pb_size»

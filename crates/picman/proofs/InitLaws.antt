@@ -9,11 +9,11 @@ use mathlib.Core.List.{List, [], _∷_, _++_}
 use native.Mathlib.Omega.{arith}
 use lib.Dec.{ltb, eqb}
 use borrow.Author.Tests.{ltb-true, ltb-false, lt-ltb, le-leb}
-use Rattle.seq.specs.Lists.{all, count}
-use Rattle.seq.specs.All.{and-both, all-holds, count-append}
-use Rattle.seq.specs.Changes.{count-last}
-use Rattle.seq.specs.Often.{SameNumbers, fewer-mem, fewer-distinct}
-use Rattle.seq.specs.Smallest.{distinct-differ}
+use Rattle.seq.specs.Lists.{allOf, countIf, SameNumbers}
+use Rattle.seq.proofs.Tests.{and-both, all-holds, count-append}
+use Rattle.seq.proofs.Orders.{count-last}
+use Rattle.seq.proofs.Distinct.{fewer-mem, fewer-distinct}
+use Rattle.seq.proofs.Smallest.{distinct-differ}
 use Rattle.def.specs.declared.Slot.{Slot}
 use Rattle.def.specs.declared.EvcPm.{EvcPm}
 use Rattle.def.specs.declared.PmResult.{PmResult}
@@ -22,17 +22,17 @@ use Rattle.def.specs.declared.Refusal.{Refusal}
 use Rattle.def.specs.declared.Refusal.the-variants.{SizeTooBig, StateNotWhole}
 use Rattle.def.specs.State.{slots, listPlaces, emptySlot, withLimits}
 use Rattle.whole.specs.Whole.{buffersOf, whole, places, heldBuffers, zeroIfEmpty, pocFits}
-use Rattle.whole.specs.Laws.{rule, whole-rules}
-use Rattle.whole.specs.Holding.{holds, buffers-passing}
-use Rattle.picman.specs.Get.{refused}
+use Rattle.whole.proofs.Laws.{rule, whole-rules}
+use Rattle.whole.proofs.Holding.{holds, buffers-passing}
+use Rattle.picman.specs.Get.{pmRefused}
 use Rattle.picman.specs.Init.{init}
 use Rattle.picman.specs.Claims.{TooBig, InitTurnedDown, InitWhy, InitRefused, InitKeepsWhole, InitKeepsSlots, InitKeepsNext}
 use Rattle.picman.proofs.Keeps.{all-places, slots-pass}
 
 -- The cases of an init, each with its condition and what it gives.
 pub data Inits (pm : EvcPm) (size refs : ℕ) : PmResult → Type 0 where
-  not-whole : whole pm ≡ false → Inits pm size refs (refused StateNotWhole pm)
-  too-big : whole pm ≡ true → TooBig size refs → Inits pm size refs (refused SizeTooBig pm)
+  not-whole : whole pm ≡ false → Inits pm size refs (pmRefused StateNotWhole pm)
+  too-big : whole pm ≡ true → TooBig size refs → Inits pm size refs (pmRefused SizeTooBig pm)
   done : whole pm ≡ true → size ≤ slots → refs ≤ listPlaces → Inits pm size refs (record { answer = Done; pm = withLimits pm size refs })
 
 module _ (pm : EvcPm) (size refs : ℕ) where
@@ -42,8 +42,8 @@ module _ (pm : EvcPm) (size refs : ℕ) where
     where
       pick : (b : Bool) → whole pm ≡ b → (s : Bool) → ltb slots size ≡ s → (r : Bool) → ltb listPlaces refs ≡ r
           → Inits pm size refs
-          (cond (not b) (refused StateNotWhole pm)
-          (cond (s || r) (refused SizeTooBig pm) (record { answer = Done; pm = withLimits pm size refs })))
+          (cond (not b) (pmRefused StateNotWhole pm)
+          (cond (s || r) (pmRefused SizeTooBig pm) (record { answer = Done; pm = withLimits pm size refs })))
       pick false w s e r f = not-whole w
       pick true w true e r f = too-big w (inl (ltb-true slots size e))
       pick true w false e true f = too-big w (inr (ltb-true listPlaces refs f))
@@ -57,7 +57,7 @@ module _ (pm : EvcPm) (size refs : ℕ) where
       omega (arith, buffers-passing (eqb b) (pm .pic ++ (emptySlot ∷ [])), count-last (holds (eqb b)) (pm .pic) emptySlot, buffers-passing (eqb b) (pm .pic))
 
   -- so none is held that was not
-  limits-fewer : (b : ℕ) → count (eqb b) (heldBuffers (withLimits pm size refs)) ≤ count (eqb b) (heldBuffers pm)
+  limits-fewer : (b : ℕ) → countIf (eqb b) (heldBuffers (withLimits pm size refs)) ≤ countIf (eqb b) (heldBuffers pm)
   limits-fewer b =
       omega (
         arith,
@@ -67,11 +67,11 @@ module _ (pm : EvcPm) (size refs : ℕ) where
         count-append (holds (eqb b)) (pm .pic) (pm .«pic_lease» ∷ []),
       )
 
-  slots-all : (p : Slot → Bool) → all p (emptySlot ∷ []) ≡ true → all p (places pm) ≡ true → all p (pm .pic ++ (emptySlot ∷ [])) ≡ true
+  slots-all : (p : Slot → Bool) → allOf p (emptySlot ∷ []) ≡ true → allOf p (places pm) ≡ true → allOf p (pm .pic ++ (emptySlot ∷ [])) ≡ true
   slots-all p z e = all-places p (pm .pic) emptySlot (slots-pass p (pm .pic) (pm .«pic_lease») e) z
 
   pub limits-whole : whole pm ≡ true → size ≤ slots → refs ≤ listPlaces → whole (withLimits pm size refs) ≡ true
-  unfolding whole all
+  unfolding whole allOf
   limits-whole w s r =
       and-both (le-leb size slots s)
       (and-both (le-leb refs listPlaces r)

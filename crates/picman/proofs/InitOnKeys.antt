@@ -5,7 +5,7 @@ use mathlib.Core.Bool.{true, false, _||_}
 use mathlib.Core.List.{List}
 use Prim.Native.Nat.{ℕ}
 use lib.Dec.{ltb}
-use Rattle.seq.specs.All.{cond-true, cond-false}
+use Rattle.seq.proofs.Tests.{cond-true, cond-false}
 use Rattle.def.specs.declared.{Answer.Answer, Refusal.Refusal}
 use Rattle.def.specs.State.{slots, listPlaces}
 use Rattle.keys.specs.declared.Rest.{Rest}

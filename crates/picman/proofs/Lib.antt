@@ -13,3 +13,4 @@ pub mod GetOnKeys
 pub mod OutOnKeys
 pub mod PutOnKeys
 pub mod InitOnKeys
+pub mod Examples

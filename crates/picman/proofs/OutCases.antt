@@ -5,9 +5,9 @@ use mathlib.Core.Bool.{Bool, true, false}
 use Prim.Native.Nat.{ℕ, _<_}
 use lib.Dec.{leb}
 use lib.ListN.{length, getD}
-use Rattle.seq.specs.Lists.{any, lowest}
-use Rattle.seq.specs.All.{and-left, cond-true, cond-false}
-use Rattle.seq.specs.Lowest.{lowest-passes, any-found}
+use Rattle.seq.specs.Lists.{anyOf, lowest}
+use Rattle.seq.proofs.Tests.{and-left, cond-true, cond-false}
+use Rattle.seq.proofs.Walks.{lowest-passes, any-found}
 use Rattle.def.specs.declared.EvcPm.{EvcPm}
 use Rattle.def.specs.State.{noSlot, isWanted}
 use Rattle.picman.specs.Out.{isDue, handOver, noneDue, outWhole}
@@ -19,7 +19,7 @@ module _ (pm : EvcPm) where
 
   -- Whether one is.
   abbrev pub someDue : Bool
-  someDue = any (isDue (pm .«poc_next_output»)) (pm .pic)
+  someDue = anyOf (isDue (pm .«poc_next_output»)) (pm .pic)
 
   pub out-due : someDue ≡ true → outWhole pm ≡ handOver pm dueSlot
   unfolding outWhole

@@ -8,11 +8,9 @@ use native.Mathlib.Omega.{arith}
 use lib.Dec.{eqb}
 use lib.ListN.{length, getD, set, length-set}
 use mir.Val.{boolByte}
-use Rattle.seq.specs.Lists.{all, any, count}
-use Rattle.seq.specs.All.{all-true, count-append}
-use Rattle.seq.specs.Changes.{getD-mem}
-use Rattle.seq.specs.Tallies.{count-set, all-set}
-use Rattle.seq.specs.Often.{SameNumbers}
+use Rattle.seq.specs.Lists.{allOf, anyOf, countIf, SameNumbers}
+use Rattle.seq.proofs.Tests.{all-true, count-append, count-set, all-set}
+use Rattle.seq.proofs.Members.{mem-at}
 use Rattle.def.specs.declared.Slot.{Slot}
 use Rattle.def.specs.declared.EvcPm.{EvcPm}
 use Rattle.def.specs.declared.PmResult.{PmResult}
@@ -21,9 +19,9 @@ use Rattle.def.specs.declared.Refusal.{Refusal}
 use Rattle.def.specs.declared.Refusal.the-variants.{StateNotWhole}
 use Rattle.def.specs.State.{slots, noSlot, isPresent, isMarked, isWanted, handedOver}
 use Rattle.whole.specs.Whole.{whole, places, heldBuffers, zeroIfEmpty, pocFits}
-use Rattle.whole.specs.Laws.{rule, whole-rules}
-use Rattle.whole.specs.Holding.{holds, buffers-passing}
-use Rattle.picman.specs.Get.{refused}
+use Rattle.whole.proofs.Laws.{rule, whole-rules}
+use Rattle.whole.proofs.Holding.{holds, buffers-passing}
+use Rattle.picman.specs.Get.{pmRefused}
 use Rattle.picman.specs.Claims.{OutTurnedDown, OutWhy, OutRefused, OutKeepsWhole, OutKeepsSize, OutPictures}
 use Rattle.picman.specs.Out.{handOver, outWhole, out}
 use Rattle.picman.proofs.OutCases.{dueSlot, someDue, due-in, due-present}
@@ -31,18 +29,18 @@ use Rattle.picman.proofs.Keeps.{store-whole, all-places, slots-pass, le
 
 -- The cases of an out, each with its condition and what it gives.
 pub data Outs (pm : EvcPm) : PmResult → Type 0 where
-  not-whole : whole pm ≡ false → Outs pm (refused StateNotWhole pm)
+  not-whole : whole pm ≡ false → Outs pm (pmRefused StateNotWhole pm)
   due : whole pm ≡ true → someDue pm ≡ true → Outs pm (handOver pm (dueSlot pm))
-  not-yet : whole pm ≡ true → someDue pm ≡ false → any isWanted (pm .pic) ≡ true → Outs pm (record { answer = NotYet; pm = pm })
-  no-more : whole pm ≡ true → someDue pm ≡ false → any isWanted (pm .pic) ≡ false → Outs pm (record { answer = NoMore; pm = pm })
+  not-yet : whole pm ≡ true → someDue pm ≡ false → anyOf isWanted (pm .pic) ≡ true → Outs pm (record { answer = NotYet; pm = pm })
+  no-more : whole pm ≡ true → someDue pm ≡ false → anyOf isWanted (pm .pic) ≡ false → Outs pm (record { answer = NoMore; pm = pm })
 
 module _ (pm : EvcPm) where
   pub outs : Outs pm (out pm)
   unfolding out outWhole
-  outs = pick (whole pm) refl (someDue pm) refl (any isWanted (pm .pic)) refl
+  outs = pick (whole pm) refl (someDue pm) refl (anyOf isWanted (pm .pic)) refl
     where
-      pick : (b : Bool) → whole pm ≡ b → (d : Bool) → someDue pm ≡ d → (a : Bool) → any isWanted (pm .pic) ≡ a
-          → Outs pm (cond (not b) (refused StateNotWhole pm) (cond d (handOver pm (dueSlot pm)) (record { answer = cond a NotYet NoMore; pm = pm })))
+      pick : (b : Bool) → whole pm ≡ b → (d : Bool) → someDue pm ≡ d → (a : Bool) → anyOf isWanted (pm .pic) ≡ a
+          → Outs pm (cond (not b) (pmRefused StateNotWhole pm) (cond d (handOver pm (dueSlot pm)) (record { answer = cond a NotYet NoMore; pm = pm })))
       pick false w d e a f = not-whole w
       pick true w true e a f = due w e
       pick true w false e true f = not-yet w e f
@@ -84,10 +82,10 @@ module _ (pm : EvcPm) (some : someDue pm ≡ true) where
   after = set (pm .pic) (dueSlot pm) (handedOver given)
 
   -- a test that does not look at the flag counts as many
-  as-many : (p : Slot → Bool) → p (handedOver given) ≡ p given → count p after ≡ count p (pm .pic)
+  as-many : (p : Slot → Bool) → p (handedOver given) ≡ p given → countIf p after ≡ countIf p (pm .pic)
   as-many p e = omega (arith, count-set p noSlot (pm .pic) (dueSlot pm) (handedOver given) (due-in pm some), ap boolByte e)
 
-  given-all : (p : Slot → Bool) → p (handedOver given) ≡ true → all p (places pm) ≡ true → all p (after ++ (pm .«pic_lease» ∷ [])) ≡ true
+  given-all : (p : Slot → Bool) → p (handedOver given) ≡ true → allOf p (places pm) ≡ true → allOf p (after ++ (pm .«pic_lease» ∷ [])) ≡ true
   given-all p t e =
       all-places p after (pm .«pic_lease») (all-set p (pm .pic) (dueSlot pm) (handedOver given) (slots-pass p (pm .pic) (pm .«pic_lease») e) t)
       (lease-passes p (pm .pic) (pm .«pic_lease») e)
@@ -113,8 +111,8 @@ module _ (pm : EvcPm) (some : someDue pm ≡ true) where
       handed-held
       (given-all pocFits (passed pocFits (rule pm w 8)) (rule pm w 8))
     where
-      passed : (p : Slot → Bool) → all p (places pm) ≡ true → p given ≡ true
-      passed p e = all-true p (pm .pic) (slots-pass p (pm .pic) (pm .«pic_lease») e) (getD-mem noSlot (pm .pic) (dueSlot pm) (due-in pm some))
+      passed : (p : Slot → Bool) → allOf p (places pm) ≡ true → p given ≡ true
+      passed p e = all-true p (pm .pic) (slots-pass p (pm .pic) (pm .«pic_lease») e) (mem-at (pm .pic) (dueSlot pm) noSlot (due-in pm some))
 
 -- ---- every out
 

@@ -2,25 +2,23 @@
 -- Assumes nothing.
 use mathlib.Core.Path.{_≡_, refl, sym, ap, _∙_}
 use mathlib.Core.Bool.{true, false}
-use mathlib.Core.List.{List, [], _∷_, map, Memᴰ·append-left}
+use mathlib.Core.List.{List, [], _∷_, map, Memᴰ·append-left, Memᴰ·map}
 use Prim.Native.Nat.{ℕ, _<_, _≤_}
 use native.Mathlib.Omega.{arith}
 use lib.Dec.{leb}
 use lib.ListN.{length, getD, set, length-set}
-use Rattle.seq.specs.Lists.{any, lowest}
-use Rattle.seq.specs.Maps.{map-at}
-use Rattle.seq.specs.All.{and-left}
-use Rattle.seq.specs.Lowest.{lowest-passes, lowest-none, found-any}
-use Rattle.seq.specs.Changes.{getD-mem}
-use Rattle.seq.specs.Members.{mem-map}
-use Rattle.seq.specs.Commute.{map-lowest, map-any, map-set}
+use Rattle.seq.specs.Lists.{anyOf, lowest}
+use Rattle.seq.proofs.Members.{map-at, mem-at}
+use Rattle.seq.proofs.Tests.{and-left}
+use Rattle.seq.proofs.Walks.{lowest-passes, lowest-none, found-any}
+use Rattle.seq.proofs.Maps.{map-lowest, map-any, map-set}
 use Rattle.def.specs.declared.{EvcPm.EvcPm, Answer.Answer}
 use Rattle.def.specs.State.{slots, highestPoc, noSlot, isWanted}
 use Rattle.keys.specs.declared.Rest.{Rest}
 use Rattle.keys.specs.Keys.{keyPresent, keyWanted, keyNumber, keyOut, keyHandedOver, rowsLength, slotAt, stands, Sized}
 use Rattle.keys.proofs.KeyLaws.{slot-handed-over}
 use Rattle.whole.specs.Whole.{whole}
-use Rattle.whole.specs.Laws.{whole-rules}
+use Rattle.whole.proofs.Laws.{whole-rules}
 use Rattle.picman.specs.Get.{shown}
 use Rattle.picman.specs.Out.{isDue, handOver, outWhole}
 use Rattle.picman.specs.OnKeys.{keyDue, keyGiven, NumbersFit, Calls}
@@ -30,7 +28,7 @@ use Rattle.picman.proofs.Calls.{calls-by, calls-picture}
 -- The pictures' numbers of a whole state fit.
 pub numbers-fit : (keys rows : List ℕ) (rest : Rest) → length keys ≡ slots → whole (stands keys rows rest) ≡ true → NumbersFit keys
 numbers-fit keys rows rest long w i h here =
-    let m = mem-map (slotAt rows) (getD-mem 0 keys i (omega arith)) in
+    let m = Memᴰ·map (slotAt rows) (mem-at keys i 0 (omega arith)) in
     whole-rules (stands keys rows rest) w .numbers-fit (slotAt rows (getD keys i 0)) (Memᴰ·append-left (slotAt rows (rest .lease) ∷ []) m) here
 
 module _ (keys : List ℕ) (rest : Rest) (long : length keys ≡ slots) where
@@ -68,14 +66,14 @@ module _ (keys : List ℕ) (rest : Rest) (long : length keys ≡ slots) where
       none-due : someDue pm ≡ false
       none-due = map-any (slotAt rows) (isDue (rest .«poc_next_output»)) keys ∙ lowest-none 0 (keyDue (rest .«poc_next_output»)) keys (omega arith)
 
-      pub on-not-yet : any keyWanted keys ≡ true → Calls (record { answer = Answer.NotYet; rest = rest }) keys rows rest keys rows (outWhole (stands keys rows rest))
+      pub on-not-yet : anyOf keyWanted keys ≡ true → Calls (record { answer = Answer.NotYet; rest = rest }) keys rows rest keys rows (outWhole (stands keys rows rest))
       on-not-yet some =
           calls-by (out-none-due pm none-due) (record {
             comes = record { answers = rw (map-any (slotAt rows) isWanted keys ∙ some) refl; stands-for = refl; lists-stay = refl; still-sized = sized };
             untouched = λ why e. let z : _≡_ {A = ℕ} 0 1 = cc in absurd (omega arith);
           })
 
-      pub on-no-more : any keyWanted keys ≡ false → Calls (record { answer = Answer.NoMore; rest = rest }) keys rows rest keys rows (outWhole (stands keys rows rest))
+      pub on-no-more : anyOf keyWanted keys ≡ false → Calls (record { answer = Answer.NoMore; rest = rest }) keys rows rest keys rows (outWhole (stands keys rows rest))
       on-no-more nothing =
           calls-by (out-none-due pm none-due) (record {
             comes = record { answers = rw (map-any (slotAt rows) isWanted keys ∙ nothing) refl; stands-for = refl; lists-stay = refl; still-sized = sized };

@@ -10,24 +10,22 @@ use lib.Dec.{eqb}
 use lib.ListN.{length, getD, set}
 use borrow.Author.Tests.{le-leb, not-true}
 use mir.Val.{boolByte}
-use Rattle.seq.specs.Lists.{all, count, highest}
-use Rattle.seq.specs.All.{count-append}
-use Rattle.seq.specs.Lowest.{highest-passes}
-use Rattle.seq.specs.Often.{SameNumbers}
-use Rattle.seq.specs.Tallies.{count-one, count-set, all-set}
+use Rattle.seq.specs.Lists.{allOf, countIf, highest, SameNumbers}
+use Rattle.seq.proofs.Tests.{count-append, count-one, count-set, all-set}
+use Rattle.seq.proofs.Walks.{highest-passes}
 use Rattle.def.specs.declared.Slot.{Slot}
 use Rattle.def.specs.declared.EvcPm.{EvcPm}
 use Rattle.def.specs.declared.PutCall.{PutCall}
-use Rattle.def.specs.State.{slots, highestPoc, emptySlot, noSlot, held, isMarked, isEmpty}
+use Rattle.def.specs.State.{slots, highestPoc, emptySlot, noSlot, occupiedBy, isMarked, isEmpty}
 use Rattle.whole.specs.Whole.{whole, places, heldBuffers, isPresent, zeroIfEmpty, pocFits}
-use Rattle.whole.specs.Laws.{rule, whole-rules, leased-occupied, leased-empty-slot, marked-occupied}
-use Rattle.whole.specs.Holding.{holds, buffers-passing}
+use Rattle.whole.proofs.Laws.{rule, whole-rules, leased-occupied, leased-empty-slot, marked-occupied}
+use Rattle.whole.proofs.Holding.{holds, buffers-passing}
 use Rattle.picman.specs.Put.{taken, placeFor, slotTaken, placedAt}
 use Rattle.picman.proofs.Keeps.{store-whole, all-places, slots-pass}
 
 module _ (c : PutCall) (numbers : List ℕ) (q : EvcPm) (w : whole q ≡ true) (size : length (q .pic) ≡ slots) (leased : q .«pic_lease» .present ≡ true) where
   abbrev new : Slot
-  new = held (taken c numbers) (q .«pic_lease» .buf)
+  new = occupiedBy (taken c numbers) (q .«pic_lease» .buf)
 
   -- ---- a picture in an empty slot
 
@@ -36,12 +34,12 @@ module _ (c : PutCall) (numbers : List ℕ) (q : EvcPm) (w : whole q ≡ true) (
     after = set (q .pic) i new
 
     -- one more passes a test on occupied slots, if the new picture does
-    one-more : (p : Slot → Bool) → p (getD (q .pic) i noSlot) ≡ false → count p after ≡ count p (q .pic) + boolByte (p new)
+    one-more : (p : Slot → Bool) → p (getD (q .pic) i noSlot) ≡ false → countIf p after ≡ countIf p (q .pic) + boolByte (p new)
     one-more p e = let s = count-set p noSlot (q .pic) i new (omega arith) in omega (arith, rw e at s)
 
     -- each buffer number is held as often as before
     pub placed-held : SameNumbers (heldBuffers q) (heldBuffers (placedAt i c numbers q))
-    unfolding count
+    unfolding countIf
     placed-held b =
         let old : holds (eqb b) (getD (q .pic) i noSlot) ≡ false = rw empty in
         let lease : holds (eqb b) (q .«pic_lease») ≡ eqb b (q .«pic_lease» .buf) = rw leased in
@@ -51,7 +49,7 @@ module _ (c : PutCall) (numbers : List ℕ) (q : EvcPm) (w : whole q ≡ true) (
         omega (arith, a, z, one, one-more (holds (eqb b)) old)
 
     pub placed-whole : c .poc ≤ highestPoc → whole (placedAt i c numbers q) ≡ true
-    unfolding all
+    unfolding allOf
     placed-whole fits =
         store-whole q w after emptySlot (q .«cur_pb_size» + 1) (cond (c .«ref_pic») (q .«cur_num_ref_pics» + 1) (q .«cur_num_ref_pics»))
         (omega (arith, one-more isPresent empty, whole-rules q w .size-matches))
@@ -60,11 +58,11 @@ module _ (c : PutCall) (numbers : List ℕ) (q : EvcPm) (w : whole q ≡ true) (
         placed-held
         (still pocFits (rule q w 8) (le-leb (c .poc) highestPoc fits) refl)
       where
-        references : (r : Bool) → c .«ref_pic» ≡ r → cond r (q .«cur_num_ref_pics» + 1) (q .«cur_num_ref_pics») ≡ count isMarked after
+        references : (r : Bool) → c .«ref_pic» ≡ r → cond r (q .«cur_num_ref_pics» + 1) (q .«cur_num_ref_pics») ≡ countIf isMarked after
         references true e = let m = one-more isMarked (rw empty) in omega (arith, ap boolByte e, m, whole-rules q w .references-match)
         references false e = let m = one-more isMarked (rw empty) in omega (arith, ap boolByte e, m, whole-rules q w .references-match)
 
-        still : (p : Slot → Bool) → all p (places q) ≡ true → p new ≡ true → all p (emptySlot ∷ []) ≡ true → all p (after ++ (emptySlot ∷ [])) ≡ true
+        still : (p : Slot → Bool) → allOf p (places q) ≡ true → p new ≡ true → allOf p (emptySlot ∷ []) ≡ true → allOf p (after ++ (emptySlot ∷ [])) ≡ true
         still p e t z = all-places p after emptySlot (all-set p (q .pic) i new (slots-pass p (q .pic) (q .«pic_lease») e) t) z
 
   -- ---- a place for it

@@ -9,12 +9,12 @@ use native.Mathlib.Omega.{arith}
 use lib.Dec.{ltb}
 use lib.ListN.{length, getD}
 use borrow.Author.Tests.{ltb-true, ltb-false}
-use Rattle.seq.specs.All.{and-left, and-right, and-both}
+use Rattle.seq.proofs.Tests.{and-left, and-right, and-both}
 use Rattle.def.specs.declared.{Slot.Slot, EvcPm.EvcPm, EvcRefP.EvcRefP, PutCall.PutCall, PmResult.PmResult, Answer.Answer, Refusal.Refusal}
 use Rattle.def.specs.State.{slots, highestPoc, noSlot}
 use Rattle.whole.specs.Whole.{whole}
-use Rattle.picman.specs.Get.{refused}
-use Rattle.picman.specs.Put.{remarked, listed, placeFor, slotTaken, place, putMarked, put}
+use Rattle.picman.specs.Get.{pmRefused}
+use Rattle.picman.specs.Put.{remarked, listNumbers, placeFor, slotTaken, place, putMarked, put}
 use Rattle.picman.specs.Claims.{PutTurnedDown, PutWhy, PutRefused, Safe, PutSafe, PutPlace}
 use Rattle.picman.proofs.PutSteps.{stored, place-taken, put-high, put-unleased, put-places}
 use Rattle.picman.proofs.Keeps.{remarked-whole, remarked-size, remarked-lease, remarked-held}
@@ -22,13 +22,13 @@ use Rattle.picman.proofs.Places.{placed-whole, placed-held, reference-p
 
 -- The cases of a put, each with its condition and what it gives; q is the state marked.
 pub data Puts (pm q : EvcPm) (refp : List EvcRefP) (c : PutCall) : PmResult → Type 0 where
-  not-whole : whole pm ≡ false → Puts pm q refp c (refused Refusal.StateNotWhole pm)
+  not-whole : whole pm ≡ false → Puts pm q refp c (pmRefused Refusal.StateNotWhole pm)
   no-picture : whole pm ≡ true → c .«has_pic» ≡ false → Puts pm q refp c (record { answer = Answer.Done; pm = q })
-  too-high : whole pm ≡ true → c .«has_pic» ≡ true → highestPoc < c .poc → Puts pm q refp c (refused Refusal.NumberTooHigh pm)
+  too-high : whole pm ≡ true → c .«has_pic» ≡ true → highestPoc < c .poc → Puts pm q refp c (pmRefused Refusal.NumberTooHigh pm)
   no-lease : whole pm ≡ true → c .«has_pic» ≡ true → c .poc ≤ highestPoc → pm .«pic_lease» .present ≡ false
-      → Puts pm q refp c (refused Refusal.NoLease pm)
+      → Puts pm q refp c (pmRefused Refusal.NoLease pm)
   slot-taken : whole pm ≡ true → c .«has_pic» ≡ true → c .poc ≤ highestPoc → pm .«pic_lease» .present ≡ true → slotTaken c q ≡ true
-      → Puts pm q refp c (refused Refusal.SlotTaken pm)
+      → Puts pm q refp c (pmRefused Refusal.SlotTaken pm)
   placed : whole pm ≡ true → c .«has_pic» ≡ true → c .poc ≤ highestPoc → pm .«pic_lease» .present ≡ true → slotTaken c q ≡ false
       → Puts pm q refp c (stored (placeFor c q) q refp c)
 
@@ -40,10 +40,10 @@ marked-puts pm q refp c = pick (whole pm) refl (c .«has_pic») refl (ltb highes
     pick : (b : Bool) → whole pm ≡ b → (p : Bool) → c .«has_pic» ≡ p → (t : Bool) → ltb highestPoc (c .poc) ≡ t
         → (l : Bool) → pm .«pic_lease» .present ≡ l → (o : Bool) → slotTaken c q ≡ o
         → Puts pm q refp c
-        (cond (not b) (refused Refusal.StateNotWhole pm)
+        (cond (not b) (pmRefused Refusal.StateNotWhole pm)
         (cond (not p) (record { answer = Answer.Done; pm = q })
-        (cond t (refused Refusal.NumberTooHigh pm)
-        (cond (not l) (refused Refusal.NoLease pm) (cond o (refused Refusal.SlotTaken pm) (stored (placeFor c q) q refp c))))))
+        (cond t (pmRefused Refusal.NumberTooHigh pm)
+        (cond (not l) (pmRefused Refusal.NoLease pm) (cond o (pmRefused Refusal.SlotTaken pm) (stored (placeFor c q) q refp c))))))
     pick false w p e t f l g o k = not-whole w
     pick true w false e t f l g o k = no-picture w e
     pick true w true e true f l g o k = too-high w e (ltb-true highestPoc (c .poc) f)
@@ -117,7 +117,7 @@ put-safe pm refp c size = pick (puts pm refp c)
     pick (slot-taken w p t l o) = unchanged
     pick (placed w p t l o) =
         let q = remarked c pm in
-        let numbers = listed (q .«num_refp_0») refp (q .«pic_lease» .pic) in
+        let numbers = listNumbers (q .«num_refp_0») refp (q .«pic_lease» .pic) in
         let v = remarked-whole c pm w size in
         let n = remarked-size c pm w size in
         let g = leased-after pm c w size l in

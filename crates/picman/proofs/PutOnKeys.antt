@@ -3,18 +3,17 @@
 use mathlib.Core.Path.{_≡_, refl, sym, ap, _∙_, subst}
 use mathlib.Core.Bool.{Bool, true, false, cond, _&&_, _||_}
 use mathlib.Core.Bool as Bool
-use mathlib.Core.List.{List, [], _∷_, _++_, map, List·Memᴰ, List·Memᴰ·head, Memᴰ·append-right}
+use mathlib.Core.List.{List, [], _∷_, _++_, map, List·Memᴰ, List·Memᴰ·head, Memᴰ·append-right, Memᴰ·map}
 use Prim.Native.Nat.{ℕ, _+_, _*_, _<_, _≤_}
 use native.Mathlib.Omega.{arith}
 use mir.Val.{boolByte}
 use lib.Dec.{eqb}
 use lib.ListN.{length, getD, take, drop, set, length-set, length-map}
 use lib.Seq.{paste, length-paste}
-use Rattle.seq.specs.Lists.{count, select, highest, Distinct}
-use Rattle.seq.specs.Distinct.{distinct-apart}
-use Rattle.seq.specs.Members.{mem-map, select-mem, select-append}
-use Rattle.seq.specs.Maps.{map-at}
-use Rattle.seq.specs.Commute.{map-append, map-set, map-count, map-highest}
+use Rattle.seq.specs.Lists.{countIf, select, highest, Distinct}
+use Rattle.seq.proofs.Distinct.{distinct-apart}
+use Rattle.seq.proofs.Members.{select-mem, select-append, map-at}
+use Rattle.seq.proofs.Maps.{map-append, map-set, map-count, map-highest}
 use Rattle.def.specs.declared.{Slot.Slot, EvcPm.EvcPm, PutCall.PutCall, Answer.Answer, Refusal.Refusal}
 use Rattle.keys.specs.declared.{Rest.Rest, Called.Called}
 use Rattle.def.specs.State.{slots, noSlot, isPresent, isMarked, isEmpty, bufferOf}
@@ -26,7 +25,7 @@ use Rattle.marking.specs.Marking.{marked}
 use Rattle.marking.specs.OnKeys.{Marks}
 use Rattle.marking.proofs.OnKeys.{keys-unmarked}
 use Rattle.whole.specs.Whole.{whole, heldBuffers}
-use Rattle.whole.specs.Laws.{whole-rules}
+use Rattle.whole.proofs.Laws.{whole-rules}
 use Rattle.picman.specs.Put.{remarked, slotTaken, placeFor, place, putWhole}
 use Rattle.picman.specs.OnKeys.{turnedDown, marksAnew, withRefs, onlyMarked, keyPlace, PlaceRoom, Placed, Remarked, Calls}
 use Rattle.picman.proofs.Keeps.{remarked-whole}
@@ -46,8 +45,8 @@ module _ (c : PutCall) (keys : List ℕ) (long : length keys ≡ slots) where
       record {
         remarks =
             λ rows rest.
-            let counted : n ≡ count isMarked (marked (c .«ref_pic_gap_length») (map (slotAt rows) keys)) =
-            m .marks-count ∙ sym (map-count (slotAt rows) isMarked next) ∙ ap (count isMarked) (m .marks-slots rows) in
+            let counted : n ≡ countIf isMarked (marked (c .«ref_pic_gap_length») (map (slotAt rows) keys)) =
+            m .marks-count ∙ sym (map-count (slotAt rows) isMarked next) ∙ ap (countIf isMarked) (m .marks-slots rows) in
             rw (e, base, m .marks-slots rows, counted) refl;
         remarks-long = m .marks-long;
       }
@@ -76,7 +75,7 @@ module _ (keys rows : List ℕ) (rest : Rest) (sized : Sized keys rows) (w : who
       ∙ ap (λ (l : List ℕ). l ++ map bufferOf (select isPresent (slotAt rows (rest .lease) ∷ []))) (buffers-same rows keys)
 
   in-lease : List·Memᴰ (keyBuffer (rest .lease)) (map bufferOf (select isPresent (slotAt rows (rest .lease) ∷ [])))
-  in-lease = mem-map bufferOf (select-mem isPresent (slotAt rows (rest .lease) ∷ []) (List·Memᴰ·head refl) leased)
+  in-lease = Memᴰ·map bufferOf (select-mem isPresent (slotAt rows (rest .lease) ∷ []) (List·Memᴰ·head refl) leased)
 
   pub room-for : (pos : ℕ) → pos < slots → PlaceRoom keys rest pos
   room-for pos h =

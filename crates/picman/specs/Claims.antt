@@ -5,12 +5,11 @@ use Prim.Native.Nat.{ℕ, _≤_, _<_}
 use mathlib.Core.Path.{_≡_}
 use mathlib.Core.Bool.{true, false}
 use mathlib.Core.Logic.{_↔_, _⊎_}
-use mathlib.Core.List.{List, _∷_, List·Memᴰ}
-use lib.ListN.{length, getD}
-use Rattle.seq.specs.Lists.{any, count, highest}
-use Rattle.seq.specs.Often.{SameNumbers}
-use Rattle.def.specs.declared.{EvcPm.EvcPm, EvcRefP.EvcRefP, PutCall.PutCall, PmResult.PmResult, Answer.Answer, Refusal.Refusal}
-use Rattle.def.specs.State.{slots, listPlaces, highestPoc, noSlot, isPresent, isIdle, isEmpty}
+use mathlib.Core.List.{List, _∷_, List·Memᴰ, []}
+use lib.ListN.{length, getD, replicate}
+use Rattle.seq.specs.Lists.{anyOf, countIf, highest, SameNumbers}
+use Rattle.def.specs.declared.{Slot.Slot, EvcPm.EvcPm, EvcRefP.EvcRefP, PutCall.PutCall, PmResult.PmResult, Answer.Answer, Refusal.Refusal}
+use Rattle.def.specs.State.{slots, listPlaces, highestPoc, noSlot, isPresent, isIdle, isEmpty, emptySlot, occupiedBy, newPm, withStore, withOutput}
 use Rattle.whole.specs.Whole.{whole, heldBuffers}
 use Rattle.picman.specs.Init.{init}
 use Rattle.picman.specs.Get.{freeBuffer, get}
@@ -51,7 +50,7 @@ InitKeepsNext = (pm : EvcPm) (size refs : ℕ) → init pm size refs .pm .«poc_
 pub data GetTurnedDown (pm : EvcPm) : Refusal → Type 0 where
   is-not-whole : whole pm ≡ false → GetTurnedDown pm Refusal.StateNotWhole
   is-leased : whole pm ≡ true → pm .«pic_lease» .present ≡ true → GetTurnedDown pm Refusal.PictureLeased
-  is-full : whole pm ≡ true → pm .«pic_lease» .present ≡ false → any isIdle (pm .pic) ≡ false → pm .«max_pb_size» ≤ count isPresent (pm .pic)
+  is-full : whole pm ≡ true → pm .«pic_lease» .present ≡ false → anyOf isIdle (pm .pic) ≡ false → pm .«max_pb_size» ≤ countIf isPresent (pm .pic)
       → GetTurnedDown pm Refusal.StoreFull
 
 abbrev pub GetWhy : Type 0
@@ -137,3 +136,17 @@ OutKeepsSize = (pm : EvcPm) → length (pm .pic) ≡ slots → length (out pm .p
 
 abbrev pub OutPictures : Type 0
 OutPictures = (pm : EvcPm) → length (pm .pic) ≡ slots → SameNumbers (heldBuffers pm) (heldBuffers (out pm .pm))
+
+-- ---- an example of out
+
+-- A picture with this number that is wanted for output, in the buffer of its number.
+abbrev pub waiting : ℕ → Slot
+waiting n = occupiedBy (record { poc = n; «is_ref» = false; «need_for_out» = true; «temporal_id» = 0; «list_poc» = replicate listPlaces 0 }) n
+
+-- 5 waits in slot 0 and 3 in slot 1, and the next output number is 5.
+abbrev pub bothDue : EvcPm
+bothDue = withOutput (withStore newPm [] emptySlot 2 0) (waiting 5 ∷ waiting 3 ∷ replicate 25 emptySlot) 5
+
+-- Both are due; the lower slot is handed over, and not the lower number.
+abbrev pub LowerSlotFirst : Type 0
+LowerSlotFirst = out bothDue .answer ≡ Answer.Picture 5 5

@@ -6,12 +6,12 @@ use mathlib.Core.Bool.{Bool, true, cond, _&&_, _||_}
 use mathlib.Core.List.{List, List·Memᴰ}
 use lib.Dec.{eqb, leb, ltb}
 use lib.ListN.{length, getD}
-use Rattle.seq.specs.Lists.{any, highest, lowest}
+use Rattle.seq.specs.Lists.{anyOf, highest, lowest}
 use Rattle.def.specs.declared.{EvcPm.EvcPm, PutCall.PutCall, PmResult.PmResult, Answer.Answer, Refusal.Refusal}
 use Rattle.keys.specs.declared.{Rest.Rest, Called.Called}
 use Rattle.def.specs.State.{slots, listPlaces, highestPoc}
 use Rattle.keys.specs.Keys.{keyPresent, keyWanted, keyEmpty, keyBuffer, keyBuffers, keyNumber, listsIn, stands, Sized, Comes, withLease}
-use Rattle.picman.specs.Put.{remarked, listed, placedAt}
+use Rattle.picman.specs.Put.{remarked, listNumbers, placedAt}
 
 abbrev pub turnedDown : Refusal → Rest → Called
 turnedDown why rest = record { answer = Answer.Refused why; rest = rest }
@@ -48,7 +48,7 @@ keyDue next k = keyWanted k && leb (keyNumber k) next
 abbrev pub duePlace : ℕ → List ℕ → ℕ
 duePlace next keys =
     let i = lowest (keyDue next) keys in
-    cond (ltb i slots) i (cond (any keyWanted keys) slots (slots + 1))
+    cond (ltb i slots) i (cond (anyOf keyWanted keys) slots (slots + 1))
 
 -- As in a whole state.
 abbrev pub NumbersFit : List ℕ → Type 0
@@ -117,6 +117,6 @@ pub record Placed (r : Called) (keys rows : List ℕ) (rest : Rest) (c : PutCall
   pub shows : r .answer ≡ Answer.Picture (keyBuffer (rest .lease)) (c .poc)
   pub stands-placed :
       let q = stands keys rows rest in
-      stands keys′ rows′ (r .rest) ≡ placedAt pos c (listed (q .«num_refp_0») (listsIn rows) (q .«pic_lease» .pic)) q
+      stands keys′ rows′ (r .rest) ≡ placedAt pos c (listNumbers (q .«num_refp_0») (listsIn rows) (q .«pic_lease» .pic)) q
   pub lists-placed : listsIn rows′ ≡ listsIn rows
   pub sized-placed : Sized keys′ rows′

@@ -1,10 +1,10 @@
--- Document 01, "Out" (`evc_picman_out_pic`): the lowest slot wanted for output whose number is due is handed over.
+-- Section 8 of the specification, out (`evc_picman_out_pic`): the lowest slot wanted for output whose number is due is handed over.
 -- Assumes nothing.
 use Prim.Native.Nat.{ℕ, _+_}
 use mathlib.Core.Bool.{Bool, cond, not, _&&_}
 use lib.Dec.{leb}
 use lib.ListN.{getD, set}
-use Rattle.seq.specs.Lists.{any, lowest}
+use Rattle.seq.specs.Lists.{anyOf, lowest}
 use Rattle.def.specs.declared.Slot.{Slot}
 use Rattle.def.specs.declared.EvcPm.{EvcPm}
 use Rattle.def.specs.declared.PmResult.{PmResult}
@@ -12,7 +12,7 @@ use Rattle.def.specs.declared.Answer.the-variants.{NotYet, NoMore}
 use Rattle.def.specs.declared.Refusal.the-variants.{StateNotWhole}
 use Rattle.def.specs.State.{noSlot, isWanted, handedOver, withOutput}
 use Rattle.whole.specs.Whole.{whole}
-use Rattle.picman.specs.Get.{refused, shown}
+use Rattle.picman.specs.Get.{pmRefused, shown}
 
 -- Wanted for output, with a number at most the next output number.
 abbrev pub isDue : ℕ → Slot → Bool
@@ -29,15 +29,15 @@ handOver pm i =
 
 -- Some are wanted and none is due: not yet. None is wanted: no more.
 abbrev pub noneDue : EvcPm → PmResult
-noneDue pm = record { answer = cond (any isWanted (pm .pic)) NotYet NoMore; pm = pm }
+noneDue pm = record { answer = cond (anyOf isWanted (pm .pic)) NotYet NoMore; pm = pm }
 
 -- On a whole state: the lowest slot that is due is handed over, if there is one.
 unfoldable pub outWhole : EvcPm → PmResult
 outWhole pm =
-    cond (any (isDue (pm .«poc_next_output»)) (pm .pic))
+    cond (anyOf (isDue (pm .«poc_next_output»)) (pm .pic))
     (handOver pm (lowest (isDue (pm .«poc_next_output»)) (pm .pic)))
     (noneDue pm)
 
 -- Its one refusal: 7.
 unfoldable pub out : EvcPm → PmResult
-out pm = cond (not (whole pm)) (refused StateNotWhole pm) (outWhole pm)
+out pm = cond (not (whole pm)) (pmRefused StateNotWhole pm) (outWhole pm)

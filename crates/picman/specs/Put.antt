@@ -1,4 +1,4 @@
--- Document 01, "Put" (`evc_picman_put_pic`): marking, then the leased picture goes into the store.
+-- Section 8 of the specification, put (`evc_picman_put_pic`): marking, then the leased picture goes into the store.
 -- Assumes nothing.
 use Prim.Native.Nat.{ℕ, _+_}
 use mathlib.Core.Bool.{Bool, true, cond, not, _&&_}
@@ -13,18 +13,18 @@ use Rattle.def.specs.declared.PutCall.{PutCall}
 use Rattle.def.specs.declared.PmResult.{PmResult}
 use Rattle.def.specs.declared.Answer.the-variants.{Done, Picture}
 use Rattle.def.specs.declared.Refusal.the-variants.{NoLease, SlotTaken, NumberTooHigh, StateNotWhole}
-use Rattle.def.specs.State.{highestPoc, emptySlot, noSlot, held, isEmpty, withStore}
+use Rattle.def.specs.State.{highestPoc, emptySlot, noSlot, occupiedBy, isEmpty, withStore}
 use Rattle.whole.specs.Whole.{whole}
 use Rattle.marking.specs.Marking.{marking, flush}
-use Rattle.picman.specs.Get.{refused}
+use Rattle.picman.specs.Get.{pmRefused}
 
 -- IDR: every slot is unmarked. Otherwise layer 0 marks; other layers do neither.
 abbrev pub remarked : PutCall → EvcPm → EvcPm
 remarked c pm = cond (c .«is_idr») (flush pm) (cond (eqb (c .«temporal_id») 0) (marking (c .«ref_pic_gap_length») pm) pm)
 
 -- Its first entries, as many as the forward count n, take the forward list's numbers; the rest keep what they had.
-abbrev pub listed : ℕ → List EvcRefP → EvcPic → List ℕ
-listed n refp p = map (λ (e : EvcRefP). e .poc) (take n refp) ++ drop n (p .«list_poc»)
+abbrev pub listNumbers : ℕ → List EvcRefP → EvcPic → List ℕ
+listNumbers n refp p = map (λ (e : EvcRefP). e .poc) (take n refp) ++ drop n (p .«list_poc»)
 
 -- The leased picture takes its number, layer and flags, and these list numbers.
 abbrev pub taken : PutCall → List ℕ → EvcPic
@@ -47,17 +47,17 @@ slotTaken c pm = c .«ref_pic» && getD (pm .pic) (pm .«cur_num_ref_pics») noS
 -- The picture at place i, the lease empty, and the stored counts with it.
 abbrev pub placedAt : ℕ → PutCall → List ℕ → EvcPm → EvcPm
 placedAt i c numbers pm =
-    withStore pm (set (pm .pic) i (held (taken c numbers) (pm .«pic_lease» .buf))) emptySlot (pm .«cur_pb_size» + 1)
+    withStore pm (set (pm .pic) i (occupiedBy (taken c numbers) (pm .«pic_lease» .buf))) emptySlot (pm .«cur_pb_size» + 1)
     (cond (c .«ref_pic») (pm .«cur_num_ref_pics» + 1) (pm .«cur_num_ref_pics»))
 
 -- The second part of a put, over the state q that marking made of pm: slot taken (5), which gives back pm, marks included; else the leased
 -- picture is placed.
 unfoldable pub place : EvcPm → EvcPm → List EvcRefP → PutCall → PmResult
 place pm q refp c =
-    cond (slotTaken c q) (refused SlotTaken pm)
+    cond (slotTaken c q) (pmRefused SlotTaken pm)
     (record {
       answer = Picture (q .«pic_lease» .buf) (c .poc);
-      pm = placedAt (placeFor c q) c (listed (q .«num_refp_0») refp (q .«pic_lease» .pic)) q;
+      pm = placedAt (placeFor c q) c (listNumbers (q .«num_refp_0») refp (q .«pic_lease» .pic)) q;
     })
 
 -- Mark, then place: q is pm marked, and isWhole says whether pm is whole. In the order of its refusals: state not whole (7), number too high (6),
@@ -65,10 +65,10 @@ place pm q refp c =
 unfoldable pub putMarked : Bool → EvcPm → EvcPm → List EvcRefP → PutCall → PmResult
 unfolding place
 putMarked isWhole pm q refp c =
-    cond (not isWhole) (refused StateNotWhole pm)
+    cond (not isWhole) (pmRefused StateNotWhole pm)
     (cond (not (c .«has_pic»)) (record { answer = Done; pm = q })
-    (cond (ltb highestPoc (c .poc)) (refused NumberTooHigh pm)
-    (cond (isEmpty (pm .«pic_lease»)) (refused NoLease pm)
+    (cond (ltb highestPoc (c .poc)) (pmRefused NumberTooHigh pm)
+    (cond (isEmpty (pm .«pic_lease»)) (pmRefused NoLease pm)
     (place pm q refp c))))
 
 abbrev pub putWhole : EvcPm → List EvcRefP → PutCall → PmResult

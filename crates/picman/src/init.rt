@@ -6,15 +6,11 @@ ghost use Rattle.picman.specs.Init.{initWhole};
 ghost use Rattle.picman.specs.OnKeys.{Calls};
 use crate::refuse;
 use def::Answer;
-use def::MAX_NUM_REF_PICS;
-use def::MAX_PB_SIZE;
+use def::MAX_PB;
+use def::MAX_REFS;
 use def::Refusal;
 use keys::Called;
 use keys::Rest;
-
-const MAX_PB: u8 = MAX_PB_SIZE as u8;
-
-const MAX_REFS: u8 = MAX_NUM_REF_PICS as u8;
 
 // Neither keys nor rows are looked at: whatever they hold, they stay.
 pub fn init(rest: Rest, max_pb_size: u8, max_num_ref_pics: u8) -> Called

@@ -18,7 +18,7 @@ ghost use Rattle.answering.specs.Answered.{OnSlices};
 ghost use Rattle.calling.specs.PutLine.{putLine};
 ghost use Rattle.renewing.specs.Renewed.{Renewed};
 ghost use Rattle.wire.specs.Wire.{Wired};
-ghost use Rattle.one_entry.specs.OneEntry.{entryGiven, fits, Placed};
+ghost use Rattle.one_entry.specs.OneEntry.{entryGiven, fits, EntryPlaced};
 
 // Writes the new machine, all zero, whatever stood there: 0.
 #[no_mangle]
@@ -170,7 +170,7 @@ pub extern "C" fn picman_machine_copy(
         let before = now (rows .entry) in
         let numbers = now («list_poc» .entry) in
         let wanted = copy (listsIn before) cnt lidx (entryGiven present buf poc numbers) in
-        ⌜ Placed r (fits before present numbers) before (now (rows .exit)) wanted ⌝ }
+        ⌜ EntryPlaced r (fits before present numbers) before (now (rows .exit)) wanted ⌝ }
 {
     place_entry(rows, cnt, lidx, present, buf, poc, list_poc)
 }

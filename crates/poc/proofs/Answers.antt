@@ -11,8 +11,8 @@ use Rattle.def.specs.declared.Refusal.{Refusal}
 use Rattle.def.specs.declared.Refusal.the-variants.{BadLayer, BadRecord, NumberTooHigh}
 use Rattle.poc.specs.declared.PocAnswer.the-variants.{Derived}
 use Rattle.poc.specs.declared.Derivation.{Derivation}
-use Rattle.poc.specs.PictureNumber.{derive, number, offsetFrom, recordOf, refused, settled, tooHigh, maxPoc, badLayer, badRecord, keyPicture, otherPicture, nextOffset, nextPrevious}
-use Rattle.poc.specs.Distance.{Call, Step, step, isAccepted, accepted}
+use Rattle.poc.specs.PictureNumber.{derive, number, offsetFrom, recordOf, derivationRefused, settled, tooHigh, maxPoc, badLayer, badRecord, keyPicture, otherPicture, nextOffset, nextPrevious}
+use Rattle.poc.specs.Distance.{Call, Step, step, isAccepted, acceptedSteps}
 
 -- A call with what a derivation came to.
 abbrev pub stepOf : Call → Derivation → Step
@@ -26,8 +26,8 @@ derived z prev d = record { answer = Derived (record { 0 = z }); poc = recordOf 
 
 module _ (c : Call) where
   -- where a call is accepted, a refusal's condition does not hold
-  passes : (b : Bool) (why : Refusal) (r : EvcPoc) (x : Derivation) → isAccepted (stepOf c (cond b (refused why r) x)) ≡ true
-      → cond b (refused why r) x ≡ x
+  passes : (b : Bool) (why : Refusal) (r : EvcPoc) (x : Derivation) → isAccepted (stepOf c (cond b (derivationRefused why r) x)) ≡ true
+      → cond b (derivationRefused why r) x ≡ x
   passes true why r x e = absurd (false≢true e)
   passes false why r x e = refl
 
@@ -42,7 +42,7 @@ module _ (c : Call) where
   unfolding derive
   accepted-is L t r e =
       let x = cond (eqb t 0) (keyPicture L r) (otherPicture L t r) in
-      let y = cond (badRecord r) (refused BadRecord r) x in
+      let y = cond (badRecord r) (derivationRefused BadRecord r) x in
       let a = passes (badLayer L t) BadLayer r y e in
       let f = ap (λ d. isAccepted (stepOf c d)) (sym a) ∙ e in
       let b = passes (badRecord r) BadRecord r x f in
@@ -59,7 +59,7 @@ module _ (c : Call) where
           settled-is r (number (nextPrevious L r) L t d) (nextPrevious L r) d g
 
   refusal-keeps : (b : Bool) (why : Refusal) (r : EvcPoc) (x : Derivation) → (isAccepted (stepOf c x) ≡ false → x .poc ≡ r)
-      → isAccepted (stepOf c (cond b (refused why r) x)) ≡ false → cond b (refused why r) x .poc ≡ r
+      → isAccepted (stepOf c (cond b (derivationRefused why r) x)) ≡ false → cond b (derivationRefused why r) x .poc ≡ r
   refusal-keeps true why r x f e = refl
   refusal-keeps false why r x f e = f e
 
@@ -82,10 +82,10 @@ module _ (c : Call) where
 -- ---- a list of calls
 
 module _ (r : EvcPoc) (c : Call) (cs : List Call) where
-  pub accepted-yes : isAccepted (step r c) ≡ true → accepted r (c ∷ cs) ≡ step r c ∷ accepted (step r c .after) cs
-  unfolding accepted
+  pub accepted-yes : isAccepted (step r c) ≡ true → acceptedSteps r (c ∷ cs) ≡ step r c ∷ acceptedSteps (step r c .after) cs
+  unfolding acceptedSteps
   accepted-yes e = rw e
 
-  pub accepted-no : isAccepted (step r c) ≡ false → accepted r (c ∷ cs) ≡ accepted r cs
-  unfolding accepted
-  accepted-no e = rw e (ap (λ q. accepted q cs) (refused-keeps c (c .log2) (c .layer) r e))
+  pub accepted-no : isAccepted (step r c) ≡ false → acceptedSteps r (c ∷ cs) ≡ acceptedSteps r cs
+  unfolding acceptedSteps
+  accepted-no e = rw e (ap (λ q. acceptedSteps q cs) (refused-keeps c (c .log2) (c .layer) r e))

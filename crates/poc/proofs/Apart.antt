@@ -2,7 +2,7 @@
 -- meets each of those once, and each comes from one layer and one decoding offset. Assumes nothing.
 use mathlib.Core.Path.{_≡_, refl, sym, ap, ap₂, _∙_, subst}
 use mathlib.Core.Bool.{Bool, true, false}
-use mathlib.Core.List.{List, [], _∷_, map, List·Memᴰ, List·Memᴰ·cases-cons, Memᴰ·cast}
+use mathlib.Core.List.{List, [], _∷_, map, List·Memᴰ, List·Memᴰ·cases-cons, Memᴰ·cast, Memᴰ·map}
 use mathlib.Core.Logic.{⊎-elim}
 use Prim.Native.Nat.{ℕ, _+_, _-_, _^_, _≤_, _<_}
 use native.Mathlib.Omega.{arith}
@@ -10,11 +10,11 @@ use lib.IntN.{ℤ, pos}
 use lib.ListN.{length, length-map}
 use lib.Pow.{pow-pos, pow-mono}
 use Rattle.seq.specs.Lists.{Distinct, Once}
-use Rattle.seq.specs.Members.{mem-map, mem-unmap, holds-cons}
-use Rattle.seq.specs.Distinct.{distinct-by, climbing-above, climbing-distinct, all-met, once}
+use Rattle.seq.proofs.Members.{mem-unmap, holds-cons}
+use Rattle.seq.proofs.Distinct.{distinct-by, climbing-above, climbing-distinct, all-met, once}
 use Rattle.def.specs.declared.EvcPoc.{EvcPoc}
 use Rattle.poc.specs.PictureNumber.{derive, number}
-use Rattle.poc.specs.Distance.{Call, Step, step, isAccepted, accepted, numberOf, layerOf, LaterCalls, AfterKey, SubGroup, FirstIsKey, Between, Origin, ComesFrom, Apart, DistanceFrom, DistanceRule, DistanceFirst}
+use Rattle.poc.specs.Distance.{Call, Step, step, isAccepted, acceptedSteps, numberOf, layerOf, LaterCalls, AfterKey, SubGroup, FirstIsKey, Between, Origin, ComesFrom, Apart, DistanceFrom, DistanceRule, DistanceFirst}
 use Rattle.poc.specs.Clip.{leaves}
 use Rattle.poc.proofs.Differences.{pos-inj}
 use Rattle.poc.proofs.Offset.{Layer, one-layer}
@@ -24,14 +24,14 @@ use Rattle.poc.proofs.Climb.{docAfter, Walk, Place, Rest, later-rest, w
 
 -- ---- on a record
 
-module _ (L p : ℕ) (r : EvcPoc) (calls : List Call) (key : AfterKey p r) (h : LaterCalls L (accepted r calls)) where
+module _ (L p : ℕ) (r : EvcPoc) (calls : List Call) (key : AfterKey p r) (h : LaterCalls L (acceptedSteps r calls)) where
   start : Place p 0 0 0 r
   start = record { previous = key .previous; offset = key .offset; low = omega arith; top = refl }
 
-  to-come : Rest L 0 0 (accepted r calls)
-  to-come = later-rest L (accepted r calls) h
+  to-come : Rest L 0 0 (acceptedSteps r calls)
+  to-come = later-rest L (acceptedSteps r calls) h
 
-  pub the-walk : Walk L p 0 (accepted r calls)
+  pub the-walk : Walk L p 0 (acceptedSteps r calls)
   the-walk = walk calls L p 0 0 0 r start to-come
 
 -- ---- the conclusions
@@ -90,7 +90,7 @@ module _ (L p : ℕ) (ss : List Step) (w : Walk L p 0 ss) where
           let v = origin-of (u .0) (u .1) in
           let same = one-layer (f .t) (layerOf (u .0)) (f .d) (o .layer-low) (v .layer-low) (layer-of o) (subst (λ (x : ℕ). Layer (layerOf (u .0)) x) (sym (u .2)) (layer-of v)) in
           let e : n ≡ numberOf (u .0) = sym (o .gives) ∙ ap₂ (λ t d. number p L t d) same (u .2) ∙ v .gives in
-          once (map numberOf ss) numbers-differ (Memᴰ·cast e (mem-map numberOf (u .1)))
+          once (map numberOf ss) numbers-differ (Memᴰ·cast e (Memᴰ·map numberOf (u .1)))
 
   comes-from : (n : ℤ) → Between L p n → ComesFrom L p n ss
   comes-from n b =
@@ -110,7 +110,7 @@ module _ (L p : ℕ) (ss : List Step) (w : Walk L p 0 ss) where
   all-apart = record { differ = (first-differs, numbers-differ); within = within; full-run = full-run; comes-from = comes-from }
 
 pub distance-from : DistanceFrom
-distance-from L p r calls key h = all-apart L p (accepted r calls) (the-walk L p r calls key h)
+distance-from L p r calls key h = all-apart L p (acceptedSteps r calls) (the-walk L p r calls key h)
 
 -- ---- a list whose first accepted call is of layer 0
 
@@ -138,17 +138,17 @@ pub record Opens (r : EvcPoc) (calls : List Call) (key : Step) (later : List Ste
   pub behind : List Call
   pub ok : isAccepted (step r first) ≡ true
   pub is-key : key ≡ step r first
-  pub is-later : later ≡ accepted (step r first .after) behind
+  pub is-later : later ≡ acceptedSteps (step r first .after) behind
   pub ends : leaves r calls ≡ leaves (step r first .after) behind
 
-pub opens : (r : EvcPoc) (calls : List Call) {key : Step} {later : List Step} → accepted r calls ≡ key ∷ later → Opens r calls key later
-unfolding leaves accepted
+pub opens : (r : EvcPoc) (calls : List Call) {key : Step} {later : List Step} → acceptedSteps r calls ≡ key ∷ later → Opens r calls key later
+unfolding leaves acceptedSteps
 opens r [] e = let z : _≡_ {A = ℕ} 0 1 = cc in absurd (omega arith)
 opens r (c ∷ cs) {key} {later} e = pick (isAccepted (step r c)) refl (opens r cs)
   where
-    pick : (b : Bool) → isAccepted (step r c) ≡ b → (accepted r cs ≡ key ∷ later → Opens r cs key later) → Opens r (c ∷ cs) key later
+    pick : (b : Bool) → isAccepted (step r c) ≡ b → (acceptedSteps r cs ≡ key ∷ later → Opens r cs key later) → Opens r (c ∷ cs) key later
     pick true t below =
-        let q : step r c ∷ accepted (step r c .after) cs ≡ key ∷ later = sym (accepted-yes r c cs t) ∙ e in
+        let q : step r c ∷ acceptedSteps (step r c .after) cs ≡ key ∷ later = sym (accepted-yes r c cs t) ∙ e in
         record { first = c; behind = cs; ok = t; is-key = cc; is-later = cc; ends = refl }
     pick false t below =
         let o = below (sym (accepted-no r c cs t) ∙ e) in
@@ -174,7 +174,7 @@ module _ {L p : ℕ} {r : EvcPoc} {calls : List Call} (g : SubGroup L p r calls)
   pub group-after : AfterKey p after-first
   group-after = let o = opening in after-key L p r (o .first) (rw (o .is-key) at (g .key-length)) (rw (o .is-key) at (g .key-layer)) (o .ok) (rw (o .is-key) at (g .key-number))
 
-  pub group-walk : Walk L p 0 (accepted after-first (opening .behind))
+  pub group-walk : Walk L p 0 (acceptedSteps after-first (opening .behind))
   group-walk = the-walk L p after-first (opening .behind) group-after (subst (LaterCalls L) (opening .is-later) (g .rest))
 
 pub distance-rule : DistanceRule
@@ -194,7 +194,7 @@ module _ (L p : ℕ) (r : EvcPoc) (first : Call) (later : List Call) (g : FirstI
       record {
         short = g .short;
         key = step r first;
-        later = accepted (step r first .after) later;
+        later = acceptedSteps (step r first .after) later;
         are = accepted-yes r first later first-accepted;
         key-length = g .first-length;
         key-layer = g .first-layer;

@@ -11,15 +11,14 @@ use lib.Dec.{eqb}
 use lib.IntN.{pos}
 use lib.Pow.{pow-pos, pow-mono, pow-lt}
 use borrow.Author.Tests.{eq-eqb, ne-eqb}
-use Rattle.seq.specs.Lists.{count, Rising}
-use Rattle.seq.specs.Numbers.{lt-or-ge}
-use Rattle.seq.specs.Members.{mem-unmap, holds-tail}
-use Rattle.seq.specs.Counts.{count-yes, count-none, count-tail, rising-step, rising-from-zero}
-use Rattle.seq.specs.Distinct.{Climbing}
+use Rattle.seq.specs.Lists.{countIf, Rising}
+use Rattle.seq.proofs.Tests.{lt-or-ge, count-yes, count-none, count-tail, rising-step, rising-from-zero}
+use Rattle.seq.proofs.Members.{mem-unmap, holds-tail}
+use Rattle.seq.proofs.Distinct.{Climbing}
 use Rattle.def.specs.declared.EvcPoc.{EvcPoc}
 use Rattle.poc.specs.declared.Derivation.{Derivation}
 use Rattle.poc.specs.PictureNumber.{derive, number, offsetOf, offsetFrom, nextOffset, nextPrevious}
-use Rattle.poc.specs.Distance.{Call, Step, step, isAccepted, accepted, numberOf, layerOf, offsetAfter, LaterCalls, Origin}
+use Rattle.poc.specs.Distance.{Call, Step, step, isAccepted, acceptedSteps, numberOf, layerOf, offsetAfter, LaterCalls, Origin}
 use Rattle.poc.proofs.Offset.{Layer, first-of, offsetFrom-here, offsetFrom-else}
 use Rattle.poc.proofs.Seek.{twice}
 use Rattle.poc.proofs.Answers.{stepOf, derived, accepted-is, accepted-yes, accepted-no}
@@ -53,8 +52,8 @@ pub record Rest (L t m : ℕ) (ss : List Step) : Type 0 where
   pub same-length : (s : Step) → List·Memᴰ s ss → s .call .log2 ≡ L
   pub layers : (s : Step) → List·Memᴰ s ss → (1 ≤ layerOf s) × (layerOf s ≤ L)
   pub never-fall : Rising (t ∷ map layerOf ss)
-  pub of-this : count (eqb t) (map layerOf ss) ≤ m
-  pub of-higher : (u : ℕ) → t < u → count (eqb u) (map layerOf ss) ≤ 2 ^ (u - 1)
+  pub of-this : countIf (eqb t) (map layerOf ss) ≤ m
+  pub of-higher : (u : ℕ) → t < u → countIf (eqb u) (map layerOf ss) ≤ 2 ^ (u - 1)
 
 -- right after a picture of layer 0 every later call of a sub-group is still to come
 pub later-rest : (L : ℕ) (ss : List Step) → LaterCalls L ss → Rest L 0 0 ss
@@ -181,14 +180,14 @@ rest-tail L p t m d s ss h a =
     r : (t ≤ layerOf s) × Rising (layerOf s ∷ map layerOf ss)
     r = rising-step t (layerOf s) (map layerOf ss) (h .never-fall)
 
-    again : t ≡ layerOf s → count (eqb (layerOf s)) (map layerOf ss) ≤ a .left
+    again : t ≡ layerOf s → countIf (eqb (layerOf s)) (map layerOf ss) ≤ a .left
     again e =
         let b = count-yes (eqb t) (layerOf s) (map layerOf ss) (eq-eqb t (layerOf s) e) in
         let f = h .of-this in
         let g = a .again (sym e) in
         rw (← e) (omega arith)
 
-    anew : t < layerOf s → count (eqb (layerOf s)) (map layerOf ss) ≤ a .left
+    anew : t < layerOf s → countIf (eqb (layerOf s)) (map layerOf ss) ≤ a .left
     anew k =
         let b = count-yes (eqb (layerOf s)) (layerOf s) (map layerOf ss) (eq-eqb (layerOf s) (layerOf s) refl) in
         let f = h .of-higher (layerOf s) k in
@@ -207,21 +206,21 @@ advances L p t m d r c ss at ok h =
     (λ k. higher-layer L p t m d r at c len (w .0) (w .1) ok k)
     (eq-or-lt-of-le (rising-step t (c .layer) (map layerOf ss) (h .never-fall) .0))
 
-pub walk : (cs : List Call) (L p t m d : ℕ) (r : EvcPoc) → Place p t m d r → Rest L t m (accepted r cs) → Walk L p d (accepted r cs)
-unfolding accepted
+pub walk : (cs : List Call) (L p t m d : ℕ) (r : EvcPoc) → Place p t m d r → Rest L t m (acceptedSteps r cs) → Walk L p d (acceptedSteps r cs)
+unfolding acceptedSteps
 walk [] L p t m d r at h = stop
 walk (c ∷ cs) L p t m d r at h = pick (isAccepted (step r c)) refl (walk cs)
   where
     pick : (b : Bool) → isAccepted (step r c) ≡ b
-        → ((L p t m d : ℕ) (r : EvcPoc) → Place p t m d r → Rest L t m (accepted r cs) → Walk L p d (accepted r cs))
-        → Walk L p d (accepted r (c ∷ cs))
+        → ((L p t m d : ℕ) (r : EvcPoc) → Place p t m d r → Rest L t m (acceptedSteps r cs) → Walk L p d (acceptedSteps r cs))
+        → Walk L p d (acceptedSteps r (c ∷ cs))
     pick true e below =
         let q = accepted-yes r c cs e in
         let h' = subst (λ (l : List Step). Rest L t m l) q h in
-        let a = advances L p t m d r c (accepted (step r c .after) cs) at e h' in
+        let a = advances L p t m d r c (acceptedSteps (step r c .after) cs) at e h' in
         subst (λ (l : List Step). Walk L p d l) (sym q)
         (on (a .climbs) (a .fits) (below L p (c .layer) (a .left) (docAfter (step r c)) (step r c .after) (a .place)
-        (rest-tail L p t m d (step r c) (accepted (step r c .after) cs) h' a)))
+        (rest-tail L p t m d (step r c) (acceptedSteps (step r c .after) cs) h' a)))
     pick false e below =
         let q = accepted-no r c cs e in
         subst (λ (l : List Step). Walk L p d l) (sym q) (below L p t m d r at (subst (λ (l : List Step). Rest L t m l) q h))

@@ -9,10 +9,10 @@ use native.Mathlib.Omega.{arith}
 use lib.IntN.{ℤ, pos}
 use lib.Pow.{pow-pos}
 use Rattle.seq.specs.Lists.{select, Distinct}
-use Rattle.seq.specs.Members.{mem-unmap, select-append, holds-tail}
-use Rattle.seq.specs.Distinct.{distinct-append}
+use Rattle.seq.proofs.Members.{mem-unmap, select-append, holds-tail}
+use Rattle.seq.proofs.Distinct.{distinct-append}
 use Rattle.def.specs.declared.EvcPoc.{EvcPoc}
-use Rattle.poc.specs.Distance.{Call, Step, step, run, isAccepted, accepted, numberOf, SubGroup}
+use Rattle.poc.specs.Distance.{Call, Step, step, run, isAccepted, acceptedSteps, numberOf, SubGroup}
 use Rattle.poc.specs.Clip.{leaves, Clip, ended, group, ClipRule}
 use Rattle.poc.proofs.Differences.{pos-inj, sub-pos, sub-of}
 use Rattle.poc.proofs.Answers.{accepted-yes, accepted-no, refused-keeps}
@@ -26,19 +26,19 @@ unfolding run leaves
 run-append r [] ds = refl
 run-append r (c ∷ cs) ds = ap {B = List Step} (λ l. step r c ∷ l) (run-append (step r c .after) cs ds)
 
-pub accepted-append : (r : EvcPoc) (cs ds : List Call) → accepted r (cs ++ ds) ≡ accepted r cs ++ accepted (leaves r cs) ds
-unfolding accepted
+pub accepted-append : (r : EvcPoc) (cs ds : List Call) → acceptedSteps r (cs ++ ds) ≡ acceptedSteps r cs ++ acceptedSteps (leaves r cs) ds
+unfolding acceptedSteps
 accepted-append r cs ds = ap (λ l. select isAccepted l) (run-append r cs ds) ∙ select-append isAccepted (run r cs) (run (leaves r cs) ds)
 
 -- where every accepted call keeps the previous number, the list does
 leaves-previous : (p : ℕ) (cs : List Call) (r : EvcPoc) → r .«prev_poc_val» ≡ p
-    → ((s : Step) → List·Memᴰ s (accepted r cs) → s .after .«prev_poc_val» ≡ p) → leaves r cs .«prev_poc_val» ≡ p
+    → ((s : Step) → List·Memᴰ s (acceptedSteps r cs) → s .after .«prev_poc_val» ≡ p) → leaves r cs .«prev_poc_val» ≡ p
 unfolding leaves
 leaves-previous p [] r e kept = e
 leaves-previous p (c ∷ cs) r e kept = pick (isAccepted (step r c)) refl (leaves-previous p cs (step r c .after))
   where
     pick : (b : Bool) → isAccepted (step r c) ≡ b
-        → (step r c .after .«prev_poc_val» ≡ p → ((s : Step) → List·Memᴰ s (accepted (step r c .after) cs) → s .after .«prev_poc_val» ≡ p)
+        → (step r c .after .«prev_poc_val» ≡ p → ((s : Step) → List·Memᴰ s (acceptedSteps (step r c .after) cs) → s .after .«prev_poc_val» ≡ p)
         → leaves (step r c .after) cs .«prev_poc_val» ≡ p)
         → leaves (step r c .after) cs .«prev_poc_val» ≡ p
     pick true t below =
@@ -48,7 +48,7 @@ leaves-previous p (c ∷ cs) r e kept = pick (isAccepted (step r c)) refl (leave
         let q = refused-keeps c (c .log2) (c .layer) r t in
         below (ap (λ x. x .«prev_poc_val») q ∙ e)
         (subst (λ (l : List Step). (s : Step) → List·Memᴰ s l → s .after .«prev_poc_val» ≡ p)
-        (accepted-no r c cs t ∙ sym (ap (λ x. accepted x cs) q)) kept)
+        (accepted-no r c cs t ∙ sym (ap (λ x. acceptedSteps x cs) q)) kept)
 
 -- ---- one sub-group
 
@@ -60,13 +60,13 @@ record Upto (v p : ℕ) (n : ℤ) : Type 0 where
   most : value ≤ p
 
 module _ {L p : ℕ} {r : EvcPoc} {calls : List Call} (g : SubGroup L p r calls) where
-  numbers-are : map numberOf (accepted r calls) ≡ pos p ∷ map numberOf (g .later)
+  numbers-are : map numberOf (acceptedSteps r calls) ≡ pos p ∷ map numberOf (g .later)
   numbers-are = rw (g .are, g .key-number)
 
-  group-differ : Distinct (map numberOf (accepted r calls))
+  group-differ : Distinct (map numberOf (acceptedSteps r calls))
   group-differ = rw numbers-are (distance-rule L p r calls g .differ)
 
-  group-upto : (n : ℤ) → List·Memᴰ n (map numberOf (accepted r calls)) → Upto (r .«prev_poc_val») p n
+  group-upto : (n : ℤ) → List·Memᴰ n (map numberOf (acceptedSteps r calls)) → Upto (r .«prev_poc_val») p n
   group-upto n m = ⊎-elim key other (List·Memᴰ·cases-cons (rw numbers-are at m))
     where
       key : n ≡ pos p → Upto (r .«prev_poc_val») p n
@@ -97,16 +97,16 @@ module _ {L p : ℕ} {r : EvcPoc} {calls : List Call} (g : SubGroup L p r calls)
 -- ---- the clip
 
 numbers-append : (r : EvcPoc) (cs ds : List Call)
-    → map numberOf (accepted r (cs ++ ds)) ≡ map numberOf (accepted r cs) ++ map numberOf (accepted (leaves r cs) ds)
-numbers-append r cs ds = ap (λ l. map numberOf l) (accepted-append r cs ds) ∙ map-append numberOf (accepted r cs) (accepted (leaves r cs) ds)
+    → map numberOf (acceptedSteps r (cs ++ ds)) ≡ map numberOf (acceptedSteps r cs) ++ map numberOf (acceptedSteps (leaves r cs) ds)
+numbers-append r cs ds = ap (λ l. map numberOf l) (accepted-append r cs ds) ∙ map-append numberOf (acceptedSteps r cs) (acceptedSteps (leaves r cs) ds)
 
 -- every number of a clip lies above the previous number that it starts from
-clip-above : {r : EvcPoc} {calls : List Call} → Clip r calls → (n : ℤ) → List·Memᴰ n (map numberOf (accepted r calls))
+clip-above : {r : EvcPoc} {calls : List Call} → Clip r calls → (n : ℤ) → List·Memᴰ n (map numberOf (acceptedSteps r calls))
     → (p : ℕ) × Upto (r .«prev_poc_val») p n
 clip-above (ended none) n m = absurd (List·Memᴰ·not-nil (rw none at m))
 clip-above (group {r = r} {calls = calls} {rest = rest} L p g c) n m =
     ⊎-elim (λ k. (p, group-upto g n k)) (λ k. higher (clip-above c n k))
-    (List·Memᴰ·append-cases (map numberOf (accepted r calls)) (rw (numbers-append r calls rest) at m))
+    (List·Memᴰ·append-cases (map numberOf (acceptedSteps r calls)) (rw (numbers-append r calls rest) at m))
   where
     higher : (q : ℕ) × Upto (leaves r calls .«prev_poc_val») q n → (q : ℕ) × Upto (r .«prev_poc_val») q n
     higher x =
@@ -121,11 +121,11 @@ unfolding Distinct
 clip-rule _ _ (ended none) = rw none tt
 clip-rule _ _ (group {r = r} {calls = calls} {rest = rest} L p g c) =
     rw (numbers-append r calls rest)
-    (distinct-append (map numberOf (accepted r calls)) (map numberOf (accepted (leaves r calls) rest))
+    (distinct-append (map numberOf (acceptedSteps r calls)) (map numberOf (acceptedSteps (leaves r calls) rest))
     (group-differ g) (clip-rule (leaves r calls) rest c) apart)
   where
     -- the sub-group's numbers are at most p, the later ones above it
-    apart : (n : ℤ) → List·Memᴰ n (map numberOf (accepted r calls)) → List·Memᴰ n (map numberOf (accepted (leaves r calls) rest)) → ⊥
+    apart : (n : ℤ) → List·Memᴰ n (map numberOf (acceptedSteps r calls)) → List·Memᴰ n (map numberOf (acceptedSteps (leaves r calls) rest)) → ⊥
     apart n m k =
         let a = group-upto g n m in
         let b = clip-above c n k .1 in

@@ -5,7 +5,7 @@ use Prim.Native.Nat.{ℕ, zero, suc, _+_, _-_, _≤_, _<_}
 use native.Mathlib.Omega.{arith}
 use lib.IntN.{ℤ, pos, negsuc, subℕ, natAbs, _+ℤ_, _-ℤ_, +ℤ-negℤ-cancel}
 use borrow.Author.Tests.{lt-ltb, le-ltb}
-use Rattle.seq.specs.Numbers.{lt-or-ge}
+use Rattle.seq.proofs.Tests.{lt-or-ge}
 
 pub sub-pos : (a b : ℕ) → b ≤ a → subℕ a b ≡ pos (a - b)
 sub-pos a b h = rw (le-ltb a b h)

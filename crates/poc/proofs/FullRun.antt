@@ -2,7 +2,7 @@
 -- none of its calls is turned down. Assumes nothing.
 use mathlib.Core.Path.{_≡_, refl, sym, ap, _∙_}
 use mathlib.Core.Bool.{Bool, true, false, cond}
-use mathlib.Core.List.{List, [], _∷_, _++_, map, List·Memᴰ, List·Memᴰ·head, List·Memᴰ·not-nil, List·Memᴰ·cases-cons, List·Memᴰ·append-cases}
+use mathlib.Core.List.{List, [], _∷_, _++_, map, List·Memᴰ, List·Memᴰ·head, List·Memᴰ·not-nil, List·Memᴰ·cases-cons, List·Memᴰ·append-cases, Memᴰ·map}
 use mathlib.Core.Logic.{⊎-elim}
 use Prim.Native.Nat.{ℕ, zero, suc, _+_, _-_, _^_, _≤_, _<_}
 use native.Mathlib.Nat.{eq-or-lt-of-le}
@@ -11,14 +11,13 @@ use lib.Dec.{eqb}
 use lib.ListN.{length, replicate, length-append, length-replicate, length-map}
 use lib.Pow.{pow-mono, pow-lt}
 use borrow.Author.Tests.{eq-eqb, ne-eqb, eqb-true, le-ltb, le-leb}
-use Rattle.seq.specs.Lists.{count, Rising}
-use Rattle.seq.specs.Members.{mem-map, mem-unmap}
-use Rattle.seq.specs.All.{count-append}
-use Rattle.seq.specs.Counts.{count-yes, count-none, rising-step}
+use Rattle.seq.specs.Lists.{countIf, Rising}
+use Rattle.seq.proofs.Members.{mem-unmap}
+use Rattle.seq.proofs.Tests.{count-append, count-yes, count-none, rising-step}
 use Rattle.def.specs.declared.EvcPoc.{EvcPoc}
 use Rattle.poc.specs.PictureNumber.{derive, number, offsetFrom, badLayer, badRecord, maxPoc, maxLog2, maxDocOffset}
 use Rattle.poc.proofs.Settled.{settled-fits, sum-low}
-use Rattle.poc.specs.Distance.{Call, Step, step, run, isAccepted, accepted, layerOf, LaterCalls}
+use Rattle.poc.specs.Distance.{Call, Step, step, run, isAccepted, acceptedSteps, layerOf, LaterCalls}
 use Rattle.poc.specs.FullRun.{layersFrom, fullLayers, callOf, fullRun, NoneTurnedDown, FullRunExists}
 use Rattle.poc.proofs.Words.{power-le}
 use Rattle.poc.proofs.Offset.{offsetFrom-lands}
@@ -79,8 +78,8 @@ module _ {L p t m d : ℕ} {r : EvcPoc} (short : L ≤ maxLog2) (known : p ≤ m
       a : step r c ≡ stepOf c (derive L (c .layer) r)
       a = ap (λ k. stepOf c (derive k (c .layer) r)) (h .same-length (step r c) (List·Memᴰ·head refl))
 
-all-accepted : (cs : List Call) (L p t m d : ℕ) (r : EvcPoc) → L ≤ maxLog2 → p ≤ maxPoc → Place p t m d r → Rest L t m (run r cs) → accepted r cs ≡ run r cs
-unfolding accepted run
+all-accepted : (cs : List Call) (L p t m d : ℕ) (r : EvcPoc) → L ≤ maxLog2 → p ≤ maxPoc → Place p t m d r → Rest L t m (run r cs) → acceptedSteps r cs ≡ run r cs
+unfolding acceptedSteps run
 all-accepted [] L p t m d r short known at h = refl
 all-accepted (c ∷ cs) L p t m d r short known at h =
     let e = accepts short known at c (run (step r c .after) cs) h in
@@ -130,24 +129,24 @@ layers-within k (suc n) t m =
     (λ a. let h = layers-within (suc k) n t a in let x = h .0 in let y = h .1 in (omega arith, omega arith))
     (List·Memᴰ·append-cases (replicate (2 ^ k) (suc k)) m)
 
-count-replicate : (t u k : ℕ) → count (eqb t) (replicate k u) ≤ k
-unfolding count
+count-replicate : (t u k : ℕ) → countIf (eqb t) (replicate k u) ≤ k
+unfolding countIf
 count-replicate t u zero = omega arith
 count-replicate t u (suc k) = pick (eqb t u) (count-replicate t u k)
   where
-    pick : (b : Bool) → count (eqb t) (replicate k u) ≤ k → cond b (suc (count (eqb t) (replicate k u))) (count (eqb t) (replicate k u)) ≤ suc k
+    pick : (b : Bool) → countIf (eqb t) (replicate k u) ≤ k → cond b (suc (countIf (eqb t) (replicate k u))) (countIf (eqb t) (replicate k u)) ≤ suc k
     pick true h = omega arith
     pick false h = omega arith
 
-layers-count : (k n t : ℕ) → count (eqb t) (layersFrom k n) ≤ 2 ^ (t - 1)
-unfolding layersFrom count
+layers-count : (k n t : ℕ) → countIf (eqb t) (layersFrom k n) ≤ 2 ^ (t - 1)
+unfolding layersFrom countIf
 layers-count k zero t = omega arith
 layers-count k (suc n) t = pick (eqb t (suc k)) refl (layers-count (suc k) n t)
   where
-    both : count (eqb t) (layersFrom k (suc n)) ≡ count (eqb t) (replicate (2 ^ k) (suc k)) + count (eqb t) (layersFrom (suc k) n)
+    both : countIf (eqb t) (layersFrom k (suc n)) ≡ countIf (eqb t) (replicate (2 ^ k) (suc k)) + countIf (eqb t) (layersFrom (suc k) n)
     both = count-append (eqb t) (replicate (2 ^ k) (suc k)) (layersFrom (suc k) n)
 
-    pick : (b : Bool) → eqb t (suc k) ≡ b → count (eqb t) (layersFrom (suc k) n) ≤ 2 ^ (t - 1) → count (eqb t) (layersFrom k (suc n)) ≤ 2 ^ (t - 1)
+    pick : (b : Bool) → eqb t (suc k) ≡ b → countIf (eqb t) (layersFrom (suc k) n) ≤ 2 ^ (t - 1) → countIf (eqb t) (layersFrom k (suc n)) ≤ 2 ^ (t - 1)
     pick true e h =
         let q : t ≡ suc k = eqb-true t (suc k) e in
         let v : t - 1 ≡ k = omega arith in
@@ -184,14 +183,14 @@ run-calls (c ∷ cs) r = ap {B = List Call} (λ l. c ∷ l) (run-calls cs (step 
 module _ (L : ℕ) (r : EvcPoc) where
   full-lengths : (s : Step) → List·Memᴰ s (run r (fullRun L)) → s .call .log2 ≡ L
   full-lengths s m =
-      let u = mem-unmap (callOf L) (fullLayers L) (rw (run-calls (fullRun L) r) at (mem-map (λ (x : Step). x .call) m)) in
+      let u = mem-unmap (callOf L) (fullLayers L) (rw (run-calls (fullRun L) r) at (Memᴰ·map (λ (x : Step). x .call) m)) in
       ap (λ c. c .log2) (u .2)
 
   full-meets : LaterCalls L (run r (fullRun L))
   full-meets =
       record {
         same-length = full-lengths;
-        layers = λ s m. let w = layers-within 0 L (layerOf s) (rw (run-layers L (fullLayers L) r) at (mem-map layerOf m)) in let x = w .1 in (w .0, omega arith);
+        layers = λ s m. let w = layers-within 0 L (layerOf s) (rw (run-layers L (fullLayers L) r) at (Memᴰ·map layerOf m)) in let x = w .1 in (w .0, omega arith);
         never-fall = rw (run-layers L (fullLayers L) r) (rising-tail 1 (fullLayers L) (layers-rise 0 L));
         at-most = λ t. rw (run-layers L (fullLayers L) r) (layers-count 0 L t);
       }

@@ -1,4 +1,4 @@
--- Laws of the search of document 01, "Picture number": which decoding offsets belong to a layer, and where the search ends.
+-- Laws of the search for a decoding offset: which decoding offsets belong to a layer, and where the search ends.
 -- Layer t, above 0, holds the offsets from 2^(t-1) to 2^t - 1. Assumes nothing.
 use mathlib.Core.Path.{_≡_, refl, sym, ap, _∙_}
 use mathlib.Core.Bool.{Bool, true, false, false≢true}
@@ -10,7 +10,7 @@ use lib.Pow.{pow-pos, pow-mono, pow-lt, pow-add}
 use lib.Ieee.{size}
 use lib.Ieee.Digits.{size-lt, size-le}
 use borrow.Author.Tests.{eq-eqb}
-use Rattle.seq.specs.Numbers.{lt-or-ge}
+use Rattle.seq.proofs.Tests.{lt-or-ge}
 use Rattle.poc.specs.PictureNumber.{inLayer, seek, offsetFrom}
 use Rattle.poc.proofs.Seek.{layer-digits, layer-bounds, twice, seek-hit, seek-miss}
 

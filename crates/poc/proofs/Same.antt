@@ -12,7 +12,7 @@ use borrow.Author.Tests.{lt-ltb, ltb-false, eqb-true, eqb-false, eq-eqb, ne-eqb}
 use Rattle.def.specs.Binary.{floorLog2}
 use Rattle.def.specs.declared.EvcPoc.{EvcPoc}
 use Rattle.def.specs.declared.Refusal.the-variants.{BadLayer, BadRecord}
-use Rattle.poc.specs.PictureNumber.{derive, inLayer, seek, offsetFrom, number, badLayer, badRecord, refused, settled, nextOffset, nextPrevious, keyPicture, otherPicture}
+use Rattle.poc.specs.PictureNumber.{derive, inLayer, seek, offsetFrom, number, badLayer, badRecord, derivationRefused, settled, nextOffset, nextPrevious, keyPicture, otherPicture}
 use Rattle.poc.specs.Standard.{standard, StandardAgrees, StandardExact, StandardFound, expectedTemporalId, whileUnexpected, pocOffset, wholePart, docOffset, temporalZero, temporalAbove}
 use Rattle.poc.proofs.Differences.{minus, sub-neg, sub-same}
 use Rattle.poc.proofs.Offset.{Layer, length-split, inLayer-true, offsetFrom-lands}
@@ -132,14 +132,14 @@ standard-agrees L t r = layer (badLayer L t) refl
     zero-or false e h = let n = eqb-false t 0 e in same-other L t (pos-of-ne-zero n) h r
 
     held : (b : Bool) → t ≤ L
-        → cond b (refused BadRecord r) (cond (eqb t 0) (temporalZero (2 ^ L) r) (temporalAbove (2 ^ L) t r))
-        ≡ cond b (refused BadRecord r) (cond (eqb t 0) (keyPicture L r) (otherPicture L t r))
+        → cond b (derivationRefused BadRecord r) (cond (eqb t 0) (temporalZero (2 ^ L) r) (temporalAbove (2 ^ L) t r))
+        ≡ cond b (derivationRefused BadRecord r) (cond (eqb t 0) (keyPicture L r) (otherPicture L t r))
     held true h = refl
     held false h = zero-or (eqb t 0) refl h
 
     layer : (b : Bool) → badLayer L t ≡ b
-        → cond b (refused BadLayer r) (cond (badRecord r) (refused BadRecord r) (cond (eqb t 0) (temporalZero (2 ^ L) r) (temporalAbove (2 ^ L) t r)))
-        ≡ cond b (refused BadLayer r) (cond (badRecord r) (refused BadRecord r) (cond (eqb t 0) (keyPicture L r) (otherPicture L t r)))
+        → cond b (derivationRefused BadLayer r) (cond (badRecord r) (derivationRefused BadRecord r) (cond (eqb t 0) (temporalZero (2 ^ L) r) (temporalAbove (2 ^ L) t r)))
+        ≡ cond b (derivationRefused BadLayer r) (cond (badRecord r) (derivationRefused BadRecord r) (cond (eqb t 0) (keyPicture L r) (otherPicture L t r)))
     layer true e = refl
     layer false e = held (badRecord r) (layer-within L t e .1)
 

@@ -10,11 +10,11 @@ use lib.Signed.{mag}
 use borrow.Author.Tests.{lt-ltb, le-ltb, ltb-true, ltb-false}
 use Rattle.def.specs.declared.EvcPoc.{EvcPoc}
 use Rattle.def.specs.declared.Refusal.the-variants.{NumberTooHigh}
-use Rattle.poc.specs.PictureNumber.{maxPoc, tooHigh, refused, settled}
-use Rattle.poc.specs.Number.{accepted}
+use Rattle.poc.specs.PictureNumber.{maxPoc, tooHigh, derivationRefused, settled}
+use Rattle.poc.specs.Number.{derivedAs}
 
 -- previous past the top is enough for 6
-pub settled-high : (r : EvcPoc) (z : ℤ) (prev d : ℕ) → maxPoc < prev → settled r z prev d ≡ refused NumberTooHigh r
+pub settled-high : (r : EvcPoc) (z : ℤ) (prev d : ℕ) → maxPoc < prev → settled r z prev d ≡ derivationRefused NumberTooHigh r
 settled-high r z prev d h = rw (lt-ltb maxPoc prev h, or-true (tooHigh z))
   where
     or-true : (b : Bool) → (b || true) ≡ true
@@ -22,7 +22,7 @@ settled-high r z prev d h = rw (lt-ltb maxPoc prev h, or-true (tooHigh z))
     or-true false = refl
 
 pub settled-fits : (r : EvcPoc) (z : ℤ) (prev d : ℕ) → tooHigh z ≡ false → prev ≤ maxPoc
-    → settled r z prev d ≡ accepted (record { 0 = z }) prev (record { 0 = pos d })
+    → settled r z prev d ≡ derivedAs (record { 0 = z }) prev (record { 0 = pos d })
 settled-fits r z prev d e h = rw (e, le-ltb maxPoc prev h)
 
 -- p + (a - b), for an a below b

@@ -14,7 +14,7 @@ use Rattle.def.specs.declared.Refusal.{Refusal}
 use Rattle.def.specs.declared.Refusal.the-variants.{BadLayer, BadRecord, NumberTooHigh}
 use Rattle.poc.specs.declared.PocAnswer.the-variants.{Refused}
 use Rattle.poc.specs.declared.Derivation.{Derivation}
-use Rattle.poc.specs.PictureNumber.{derive, number, tooHigh, offsetFits, offsetOf, offsetFrom, badRecord, refused, keyPicture, otherPicture, nextOffset, nextPrevious, maxPoc, maxLog2, maxDocOffset}
+use Rattle.poc.specs.PictureNumber.{derive, number, tooHigh, offsetFits, offsetOf, offsetFrom, badRecord, derivationRefused, keyPicture, otherPicture, nextOffset, nextPrevious, maxPoc, maxLog2, maxDocOffset}
 use Rattle.poc.specs.Domain.{Checked}
 use Rattle.poc.specs.Why.{LayerIsBad, OffsetIsBad, negative, too-large, RecordIsBad, NumberIsTooHigh, derived-number, grown-previous, Refusing, is-bad-layer, is-bad-record, is-too-high, DeriveWhy, DeriveRefused}
 use Rattle.poc.proofs.Answers.{derived}
@@ -24,9 +24,9 @@ use Rattle.poc.proofs.Gap.{part-below}
 
 -- The cases of a derivation, each with its condition and what it gives.
 data Derives (L t : ℕ) (r : EvcPoc) : Derivation → Type 0 where
-  bad-layer : LayerIsBad L t → Derives L t r (refused BadLayer r)
-  bad-record : L ≤ maxLog2 → t ≤ L → RecordIsBad r → Derives L t r (refused BadRecord r)
-  high : Checked L t r → NumberIsTooHigh L t r → Derives L t r (refused NumberTooHigh r)
+  bad-layer : LayerIsBad L t → Derives L t r (derivationRefused BadLayer r)
+  bad-record : L ≤ maxLog2 → t ≤ L → RecordIsBad r → Derives L t r (derivationRefused BadRecord r)
+  high : Checked L t r → NumberIsTooHigh L t r → Derives L t r (derivationRefused NumberTooHigh r)
   gives : Checked L t r → (NumberIsTooHigh L t r → ⊥) → (z : ℤ) (prev d : ℕ) → Derives L t r (derived z prev d)
 
 module _ (L t : ℕ) (r : EvcPoc) where
@@ -96,7 +96,7 @@ module _ (L t : ℕ) (r : EvcPoc) where
         pick false e = other-derives h (pos-of-ne-zero (eqb-false t 0 e))
 
     offset-tested : (z : ℤ) → r .«prev_doc_offset» .0 ≡ z → (b : Bool) → offsetFits z ≡ b → r .«prev_poc_val» ≤ maxPoc
-        → Derives L t r (cond (not b) (refused BadRecord r) (cond (eqb t 0) (keyPicture L r) (otherPicture L t r)))
+        → Derives L t r (cond (not b) (derivationRefused BadRecord r) (cond (eqb t 0) (keyPicture L r) (otherPicture L t r)))
     offset-tested (pos d) e true f p =
         let k = leb-true d maxDocOffset f in
         checked (record { short = short; layer = layer; previous = p; is-offset = rw e; offset = rw e k })
@@ -107,7 +107,7 @@ module _ (L t : ℕ) (r : EvcPoc) where
     offset-tested (negsuc d) e false f p = bad-record short layer (inr (subst OffsetIsBad (sym e) (negative d)))
 
     tested : (b : Bool) → ltb maxPoc (r .«prev_poc_val») ≡ b
-        → Derives L t r (cond (b || not (offsetFits (r .«prev_doc_offset» .0))) (refused BadRecord r) (cond (eqb t 0) (keyPicture L r) (otherPicture L t r)))
+        → Derives L t r (cond (b || not (offsetFits (r .«prev_doc_offset» .0))) (derivationRefused BadRecord r) (cond (eqb t 0) (keyPicture L r) (otherPicture L t r)))
     tested true e = bad-record short layer (inl (ltb-true maxPoc _ e))
     tested false e = offset-tested (r .«prev_doc_offset» .0) refl (offsetFits (r .«prev_doc_offset» .0)) refl (ltb-false maxPoc _ e)
 
@@ -116,7 +116,7 @@ module _ (L t : ℕ) (r : EvcPoc) where
   derives = pick (ltb maxLog2 L) refl (ltb L t) refl
     where
       pick : (a : Bool) → ltb maxLog2 L ≡ a → (b : Bool) → ltb L t ≡ b
-          → Derives L t r (cond (a || b) (refused BadLayer r) (cond (badRecord r) (refused BadRecord r) (cond (eqb t 0) (keyPicture L r) (otherPicture L t r))))
+          → Derives L t r (cond (a || b) (derivationRefused BadLayer r) (cond (badRecord r) (derivationRefused BadRecord r) (cond (eqb t 0) (keyPicture L r) (otherPicture L t r))))
       pick true e b f = bad-layer (inl (ltb-true maxLog2 L e))
       pick false e true f = bad-layer (inr (ltb-true L t f))
       pick false e false f = tested (ltb-false maxLog2 L e) (ltb-false L t f) (ltb maxPoc (r .«prev_poc_val»)) refl

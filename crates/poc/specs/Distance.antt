@@ -1,4 +1,4 @@
--- The mission's third demand, with document 01's "Conditions of acceptance": the numbers of one sub-group never meet.
+-- The third demand, section 5 of the specification: the numbers of one sub-group never meet.
 -- Assumes nothing.
 use Prim.Native.Nat.{ℕ, _+_, _-_, _^_, _≤_, _<_}
 use mathlib.Core.Path.{_≡_}
@@ -7,7 +7,7 @@ use mathlib.Core.List.{List, [], _∷_, map, List·Memᴰ}
 use lib.Dec.{eqb}
 use lib.IntN.{ℤ, pos, _+ℤ_}
 use lib.ListN.{length}
-use Rattle.seq.specs.Lists.{count, select, Distinct, Once, Rising}
+use Rattle.seq.specs.Lists.{countIf, select, Distinct, Once, Rising}
 use Rattle.def.specs.declared.EvcPoc.{EvcPoc}
 use Rattle.poc.specs.declared.PocAnswer.{PocAnswer}
 use Rattle.poc.specs.declared.PocAnswer.the-variants.{Derived, Refused}
@@ -40,9 +40,9 @@ isAccepted s = accepts (s .answer)
     accepts (Refused why) = false
 
 -- The accepted ones of a list of derivations.
-unfoldable pub accepted : EvcPoc → List Call → List Step
+unfoldable pub acceptedSteps : EvcPoc → List Call → List Step
 unfolding run select
-accepted r cs = select isAccepted (run r cs)
+acceptedSteps r cs = select isAccepted (run r cs)
 
 -- The number of an accepted call is what it answers; a call turned down has none, and 0 stands for it where nothing reads it.
 abbrev pub numberOf : Step → ℤ
@@ -64,7 +64,7 @@ pub record LaterCalls (L : ℕ) (steps : List Step) : Type 0 where
   pub same-length : (s : Step) → List·Memᴰ s steps → s .call .log2 ≡ L
   pub layers : (s : Step) → List·Memᴰ s steps → (1 ≤ layerOf s) × (layerOf s ≤ L)
   pub never-fall : Rising (map layerOf steps)
-  pub at-most : (t : ℕ) → count (eqb t) (map layerOf steps) ≤ 2 ^ (t - 1)
+  pub at-most : (t : ℕ) → countIf (eqb t) (map layerOf steps) ≤ 2 ^ (t - 1)
 
 -- The record stands right after a picture of layer 0 with number p: previous is p and the offset 0. The number that it holds is not read.
 pub record AfterKey (p : ℕ) (r : EvcPoc) : Type 0 where
@@ -77,7 +77,7 @@ pub record SubGroup (L p : ℕ) (r : EvcPoc) (calls : List Call) : Type 0 where
   pub short : L ≤ maxLog2
   pub key : Step
   pub later : List Step
-  pub are : accepted r calls ≡ key ∷ later
+  pub are : acceptedSteps r calls ≡ key ∷ later
   pub key-length : key .call .log2 ≡ L
   pub key-layer : layerOf key ≡ 0
   pub key-number : numberOf key ≡ pos p
@@ -89,7 +89,7 @@ pub record FirstIsKey (L p : ℕ) (r : EvcPoc) (first : Call) (later : List Call
   pub first-length : first .log2 ≡ L
   pub first-layer : first .layer ≡ 0
   pub first-number : step r first .answer ≡ Derived (record { 0 = pos p })
-  pub rest : LaterCalls L (accepted (step r first .after) later)
+  pub rest : LaterCalls L (acceptedSteps (step r first .after) later)
 
 -- n lies strictly between p - 2^L and p: it is p less a distance from 1 to 2^L - 1.
 pub record Between (L p : ℕ) (n : ℤ) : Type 0 where
@@ -124,7 +124,7 @@ pub record Apart (L p : ℕ) (steps : List Step) : Type 0 where
 -- Demand 3, on a record: derivations on one that stands right after a picture of layer 0.
 abbrev pub DistanceFrom : Type 0
 DistanceFrom =
-    (L p : ℕ) (r : EvcPoc) (calls : List Call) → AfterKey p r → LaterCalls L (accepted r calls) → Apart L p (accepted r calls)
+    (L p : ℕ) (r : EvcPoc) (calls : List Call) → AfterKey p r → LaterCalls L (acceptedSteps r calls) → Apart L p (acceptedSteps r calls)
 
 -- Demand 3, on a list of derivations whose first accepted one is of layer 0.
 abbrev pub DistanceRule : Type 0
@@ -134,4 +134,4 @@ DistanceRule = (L p : ℕ) (r : EvcPoc) (calls : List Call) (g : SubGroup L p r 
 abbrev pub DistanceFirst : Type 0
 DistanceFirst =
     (L p : ℕ) (r : EvcPoc) (first : Call) (later : List Call) → FirstIsKey L p r first later
-    → Apart L p (accepted (step r first .after) later)
+    → Apart L p (acceptedSteps (step r first .after) later)

@@ -6,7 +6,7 @@ use mathlib.Core.List.{List, [], _++_, map}
 use lib.ListN.{length, replicate}
 use Rattle.def.specs.declared.EvcPoc.{EvcPoc}
 use Rattle.poc.specs.PictureNumber.{maxPoc, maxLog2}
-use Rattle.poc.specs.Distance.{Call, run, accepted, LaterCalls, AfterKey}
+use Rattle.poc.specs.Distance.{Call, run, acceptedSteps, LaterCalls, AfterKey}
 
 -- n layers from layer k + 1 on, each layer t as often as it may be, 2^(t-1) times.
 unfoldable pub layersFrom : ℕ → ℕ → List ℕ
@@ -28,13 +28,13 @@ fullRun L = map (callOf L) (fullLayers L)
 abbrev pub NoneTurnedDown : Type 0
 NoneTurnedDown =
     (L p : ℕ) (r : EvcPoc) (calls : List Call) → L ≤ maxLog2 → p ≤ maxPoc → AfterKey p r → LaterCalls L (run r calls)
-    → accepted r calls ≡ run r calls
+    → acceptedSteps r calls ≡ run r calls
 
 -- The calls of a full run are all accepted, as the rule wants them, and 2^L - 1 of them.
 pub record IsFullRun (L : ℕ) (r : EvcPoc) (calls : List Call) : Type 0 where
-  pub none-turned-down : accepted r calls ≡ run r calls
-  pub meets : LaterCalls L (accepted r calls)
-  pub full : length (accepted r calls) + 1 ≡ 2 ^ L
+  pub none-turned-down : acceptedSteps r calls ≡ run r calls
+  pub meets : LaterCalls L (acceptedSteps r calls)
+  pub full : length (acceptedSteps r calls) + 1 ≡ 2 ^ L
 
 -- For every L from 0 to 15, on every record that stands right after a picture of layer 0.
 abbrev pub FullRunExists : Type 0

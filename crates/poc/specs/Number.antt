@@ -6,5 +6,5 @@ use Rattle.poc.specs.declared.PocAnswer.the-variants.{Derived}
 use Rattle.poc.specs.declared.Derivation.{Derivation}
 
 -- The number z, with the record for the next call.
-abbrev pub accepted : PocVal → ℕ → DocOffset → Derivation
-accepted z prev d = record { answer = Derived z; poc = record { «poc_val» = z; «prev_poc_val» = prev; «prev_doc_offset» = d } }
+abbrev pub derivedAs : PocVal → ℕ → DocOffset → Derivation
+derivedAs z prev d = record { answer = Derived z; poc = record { «poc_val» = z; «prev_poc_val» = prev; «prev_doc_offset» = d } }

@@ -1,4 +1,4 @@
--- Document 01, "Picture number": what a call of the derivation, with its L and its layer, makes of the record.
+-- Section 5 of the specification: what a call of the derivation, with its L and its layer, makes of the record.
 -- The number of a picture and its decoding offset are kept apart; the number that the record holds on entry is not read.
 -- Assumes nothing.
 use Prim.Native.Nat.{ℕ, zero, suc, _+_, _-_, _*_, _%_, _^_}
@@ -61,13 +61,13 @@ abbrev pub recordOf : ℤ → ℕ → ℕ → EvcPoc
 recordOf z prev d = record { «poc_val» = record { 0 = z }; «prev_poc_val» = prev; «prev_doc_offset» = record { 0 = pos d } }
 
 -- A call turned down leaves the record as it was.
-abbrev pub refused : Refusal → EvcPoc → Derivation
-refused why r = record { answer = Refused why; poc = r }
+abbrev pub derivationRefused : Refusal → EvcPoc → Derivation
+derivationRefused why r = record { answer = Refused why; poc = r }
 
 -- The new number z, with the previous number and the offset that the record holds from now on; or 6.
 abbrev pub settled : EvcPoc → ℤ → ℕ → ℕ → Derivation
 settled r z prev d =
-    cond (tooHigh z || ltb maxPoc prev) (refused NumberTooHigh r)
+    cond (tooHigh z || ltb maxPoc prev) (derivationRefused NumberTooHigh r)
     (record { answer = Derived (record { 0 = z }); poc = recordOf z prev d })
 
 -- Layer 0: the number is previous + 2^L, the offset becomes 0 and previous becomes the number.
@@ -98,6 +98,6 @@ badRecord r = ltb maxPoc (r .«prev_poc_val») || not (offsetFits (r .«prev_doc
 unfoldable pub derive : ℕ → ℕ → EvcPoc → Derivation
 unfolding offsetFrom
 derive L t r =
-    cond (badLayer L t) (refused BadLayer r)
-    (cond (badRecord r) (refused BadRecord r)
+    cond (badLayer L t) (derivationRefused BadLayer r)
+    (cond (badRecord r) (derivationRefused BadRecord r)
     (cond (eqb t 0) (keyPicture L r) (otherPicture L t r)))

@@ -9,7 +9,7 @@ use Rattle.def.specs.Binary.{floorLog2}
 use Rattle.def.specs.declared.EvcPoc.{EvcPoc}
 use Rattle.def.specs.declared.Refusal.the-variants.{BadLayer, BadRecord}
 use Rattle.poc.specs.declared.Derivation.{Derivation}
-use Rattle.poc.specs.PictureNumber.{derive, offsetOf, badLayer, badRecord, refused, settled}
+use Rattle.poc.specs.PictureNumber.{derive, offsetOf, badLayer, badRecord, derivationRefused, settled}
 
 -- ExpectedTemporalId is 0 where DocOffset is 0, and 1 + Floor(Log2(DocOffset)) elsewhere.
 unfoldable pub expectedTemporalId : ℕ → ℕ
@@ -57,12 +57,12 @@ temporalAbove length tid r =
     let doc = docOffset length tid r in
     settled r (pos prev +ℤ wholePart (pocOffset length tid doc)) prev doc
 
--- The standard's derivation, under the refusals of document 01.
+-- The standard's derivation, under the refusals of section 5 of the specification.
 unfoldable pub standard : ℕ → ℕ → EvcPoc → Derivation
 unfolding whileUnexpected
 standard L tid r =
-    cond (badLayer L tid) (refused BadLayer r)
-    (cond (badRecord r) (refused BadRecord r)
+    cond (badLayer L tid) (derivationRefused BadLayer r)
+    (cond (badRecord r) (derivationRefused BadRecord r)
     (cond (eqb tid 0) (temporalZero (2 ^ L) r) (temporalAbove (2 ^ L) tid r)))
 
 -- Demand 2: picture numbers equal the exact formula of the standard, on every input.

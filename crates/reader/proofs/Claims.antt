@@ -10,8 +10,8 @@ use lib.Dec.{ltb}
 use lib.ListN.{length, drop, length-drop, length-append, drop-of-length-le}
 use lib.Seq.{drop-drop, drop-at, take-at, append-snoc, length-take-le}
 use borrow.Author.Tests.{ltb-true, ltb-false, lt-ltb, le-ltb}
-use Rattle.seq.specs.Lists.{all, lowest}
-use Rattle.seq.specs.Lowest.{lowest-le}
+use Rattle.seq.specs.Lists.{allOf, lowest}
+use Rattle.seq.proofs.Walks.{lowest-le}
 use Rattle.buffer.specs.Buffer.{newline, isNewline, linesFrom, lineEnd, lineAt}
 use Rattle.buffer.proofs.Lines.{first-line}
 use Rattle.hex.specs.Hex.{digitsOf, bytesOf, sum8}
@@ -32,11 +32,11 @@ unfolding answerAt afterLine
 stays-at-end buffer at h = record { no-more = rw (le-ltb at (length buffer) h); same-place = rw (le-ltb at (length buffer) h) }
 
 pub longer-is-bad : LongerIsBad
-unfolding answerAt answerDigits digitsOf bytesOf sum8 bodyOf answerKind lowest all
+unfolding answerAt answerDigits digitsOf bytesOf sum8 bodyOf answerKind lowest allOf
 longer-is-bad = (refl, refl)
 
 pub then-empty-line : ThenEmptyLine
-unfolding linesFrom readsOf answerLine answerDigits digitsOf bytesOf sum8 bodyOf answerKind all
+unfolding linesFrom readsOf answerLine answerDigits digitsOf bytesOf sum8 bodyOf answerKind allOf
 then-empty-line = refl
 
 -- What a line gives is not that there is no more.

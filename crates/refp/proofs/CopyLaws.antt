@@ -8,10 +8,10 @@ use native.Mathlib.Omega.{arith}
 use lib.Dec.{ltb, eqb}
 use lib.ListN.{getD, set}
 use borrow.Author.Tests.{ltb-true, ltb-false, lt-ltb, le-ltb, eqb-true, eq-eqb}
-use Rattle.seq.specs.Lists.{any, highest}
-use Rattle.seq.specs.All.{any-holds}
-use Rattle.seq.specs.Lowest.{highest-passes}
-use Rattle.seq.specs.Maps.{mem-at}
+use Rattle.seq.specs.Lists.{anyOf, highest}
+use Rattle.seq.proofs.Tests.{any-holds}
+use Rattle.seq.proofs.Walks.{highest-passes}
+use Rattle.seq.proofs.Members.{mem-at}
 use Rattle.def.specs.State.{listPlaces, noRefP}
 use Rattle.def.specs.declared.{EvcRefP.EvcRefP, CopyResult.CopyResult, Answer.Answer, Refusal.Refusal}
 use Rattle.refp.specs.Copy.{firstEntries, copy}
@@ -29,7 +29,7 @@ module _ (refp : List EvcRefP) (cnt lidx : ℕ) (src : EvcRefP) where
   abbrev first : List EvcRefP
   first = firstEntries refp cnt lidx
 
-  one-has-it : cnt ≤ 20 → lidx ≤ 1 → any same first ≡ true → CopyReason refp cnt lidx src Refusal.SameNumber
+  one-has-it : cnt ≤ 20 → lidx ≤ 1 → anyOf same first ≡ true → CopyReason refp cnt lidx src Refusal.SameNumber
   one-has-it f l t =
       let h = highest-passes noRefP same first t in
       let e : EvcRefP = getD first (highest same first) noRefP in
@@ -37,9 +37,9 @@ module _ (refp : List EvcRefP) (cnt lidx : ℕ) (src : EvcRefP) where
 
   pub copy-end : CopyEnd refp cnt lidx src (copy refp cnt lidx src)
   unfolding copy
-  copy-end = pick (ltb 20 cnt) refl (ltb 1 lidx) refl (any same first) refl
+  copy-end = pick (ltb 20 cnt) refl (ltb 1 lidx) refl (anyOf same first) refl
     where
-      pick : (a : Bool) → ltb 20 cnt ≡ a → (b : Bool) → ltb 1 lidx ≡ b → (s : Bool) → any same first ≡ s
+      pick : (a : Bool) → ltb 20 cnt ≡ a → (b : Bool) → ltb 1 lidx ≡ b → (s : Bool) → anyOf same first ≡ s
           → CopyEnd refp cnt lidx src (cond (a || b) (record { answer = Answer.Refused Refusal.NoSuchPlace; refp = refp })
           (cond s (record { answer = Answer.Refused Refusal.SameNumber; refp = refp }) (record { answer = Answer.Done; refp = set refp (lidx * listPlaces + cnt) src })))
       pick true p b q s e = refuses Refusal.NoSuchPlace (no-place (inl (ltb-true 20 cnt p)))

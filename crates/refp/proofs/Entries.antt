@@ -9,10 +9,9 @@ use lib.Dec.{eqb, lit≤}
 use lib.ListN.{length, getD, set, take, drop, replicate, length-set, length-map, getD-replicate, List·getD-append}
 use lib.Seq.{paste, ext-getD, getD-take, getD-set-same, getD-set-other, drop-set-lt, drop-set-add, take-set-le, length-take-le, length-paste}
 use borrow.Author.Tests.{eqb-true, eqb-false}
-use Rattle.seq.specs.Table.{entry}
-use Rattle.seq.specs.Fills.{length-entries}
-use Rattle.seq.specs.Maps.{map-at}
-use Rattle.seq.specs.Numbers.{lt-or-ge}
+use Rattle.seq.proofs.Rows.{entry, length-entries}
+use Rattle.seq.proofs.Members.{map-at}
+use Rattle.seq.proofs.Tests.{lt-or-ge}
 use Rattle.def.specs.State.{listPlaces, noRefP}
 use Rattle.def.specs.declared.EvcRefP.{EvcRefP}
 use Rattle.keys.specs.Keys.{rowLength, headRow, numberRow, entryRow, rowsLength, rowAt, headAt, numberAt, entryAt, listsIn}

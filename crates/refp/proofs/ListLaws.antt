@@ -9,19 +9,19 @@ use native.Mathlib.Omega.{arith}
 use lib.Dec.{ltb, eqb}
 use lib.ListN.{length, getD}
 use borrow.Author.Tests.{ltb-true, ltb-false, lt-ltb, le-ltb, eqb-true, eqb-false, eq-eqb, ne-eqb}
-use Rattle.seq.specs.Lists.{count}
-use Rattle.seq.specs.Distinct.{distinct-map}
+use Rattle.seq.specs.Lists.{countIf}
+use Rattle.seq.proofs.Distinct.{distinct-map}
 use Rattle.def.specs.State.{listPlaces, highestPoc, noSlot, isMarked, withCounts}
 use Rattle.def.specs.declared.{Slot.Slot, EvcPm.EvcPm, EvcRefP.EvcRefP, RefpCall.RefpCall, RefpResult.RefpResult, Answer.Answer, Refusal.Refusal}
 use Rattle.whole.specs.Whole.{whole}
-use Rattle.whole.specs.Laws.{whole-rules, rules-whole}
+use Rattle.whole.proofs.Laws.{whole-rules, rules-whole}
 use Rattle.ordering.specs.Order.{Key, keyOf, down, MarkedKey}
 use Rattle.choosing.specs.Choice.{turned-down, chosen, isB, forwardOf, backwardOf, withForward, choice, of-b, of-other, Accepted}
 use Rattle.ordering.proofs.OrderLaws.{down-length, down-members, down-distinct}
 use Rattle.passes.proofs.Taken.{Taken}
 use Rattle.choosing.proofs.BackwardSome.{no-entry, backward-some}
 use Rattle.choosing.proofs.Accepted.{forward-taken, backward-taken}
-use Rattle.refp.specs.Lists.{refused, counted, listed, settled, isI, listsWhole, lists}
+use Rattle.refp.specs.Lists.{listsRefused, countsShown, listsWith, listsChosen, isI, listsWhole, lists}
 use Rattle.refp.specs.Claims.{Asked, SomeMarked, ListsReason, not-whole, too-high, too-many-marked, none-marked, forward-empty, Holds, Built, ListsWhy, ListsRefusedUnchanged, ListsStayWhole, OnlyCounts, ListsBuilt}
 use Rattle.refp.proofs.Written.{TwoLists, both-long, forward-place, forward-rest, backward-place, backward-rest}
 
@@ -35,9 +35,9 @@ on-whole pm refp c h = rw h
 
 -- Each with its condition and what it gives.
 pub data ListsEnd (pm : EvcPm) (refp : List EvcRefP) (c : RefpCall) : RefpResult → Type 0 where
-  refuses : (why : Refusal) → ListsReason pm c why → ListsEnd pm refp c (refused why pm refp)
-  no-list : whole pm ≡ true → isI (c .«slice_type») ≡ true → ListsEnd pm refp c (counted pm refp)
-  builds : Asked pm c → (fwd bwd : List Key) → Accepted c (down (pm .pic)) fwd bwd → ListsEnd pm refp c (listed pm refp fwd bwd)
+  refuses : (why : Refusal) → ListsReason pm c why → ListsEnd pm refp c (listsRefused why pm refp)
+  no-list : whole pm ≡ true → isI (c .«slice_type») ≡ true → ListsEnd pm refp c (countsShown pm refp)
+  builds : Asked pm c → (fwd bwd : List Key) → Accepted c (down (pm .pic)) fwd bwd → ListsEnd pm refp c (listsWith pm refp fwd bwd)
 
 module _ (pm : EvcPm) (refp : List EvcRefP) (c : RefpCall) where
   abbrev order : List Key
@@ -56,30 +56,30 @@ module _ (pm : EvcPm) (refp : List EvcRefP) (c : RefpCall) where
     some : length order ≡ 0 → ⊥
     some z = m .some (sym (down-length (pm .pic)) ∙ z)
 
-    forward-ends : (length fwd ≡ 0 → ⊥) → (b : Bool) → isB (c .«slice_type») ≡ b → ListsEnd pm refp c (settled pm refp (chosen fwd (cond b bwd [])))
+    forward-ends : (length fwd ≡ 0 → ⊥) → (b : Bool) → isB (c .«slice_type») ≡ b → ListsEnd pm refp c (listsChosen pm refp (chosen fwd (cond b bwd [])))
     forward-ends n true b =
         builds (m .asked) fwd bwd
         (record { at-most = few; some = some; forward-is = refl; forward-some = n; backward-is = of-b b refl (backward-some c order b n) })
     forward-ends n false b =
         builds (m .asked) fwd [] (record { at-most = few; some = some; forward-is = refl; forward-some = n; backward-is = of-other b refl })
 
-    passes-end : ListsEnd pm refp c (settled pm refp (withForward (isB (c .«slice_type»)) bwd fwd))
+    passes-end : ListsEnd pm refp c (listsChosen pm refp (withForward (isB (c .«slice_type»)) bwd fwd))
     passes-end = pick (eqb (length fwd) 0) refl
       where
         pick : (z : Bool) → eqb (length fwd) 0 ≡ z
-            → ListsEnd pm refp c (settled pm refp (cond z (turned-down Refusal.ForwardListEmpty) (chosen fwd (cond (isB (c .«slice_type»)) bwd []))))
+            → ListsEnd pm refp c (listsChosen pm refp (cond z (turned-down Refusal.ForwardListEmpty) (chosen fwd (cond (isB (c .«slice_type»)) bwd []))))
         pick true z = refuses Refusal.ForwardListEmpty (forward-empty m (no-entry fwd (eqb-true (length fwd) 0 z)))
         pick false z = forward-ends (eqb-false (length fwd) 0 z) (isB (c .«slice_type»)) refl
 
-  choice-ends : Asked pm c → ListsEnd pm refp c (settled pm refp (choice c order))
+  choice-ends : Asked pm c → ListsEnd pm refp c (listsChosen pm refp (choice c order))
   unfolding choice
   choice-ends a = pick (ltb listPlaces (length order)) refl (eqb (length order) 0) refl
     where
-      marked-length : length order ≡ count isMarked (pm .pic)
+      marked-length : length order ≡ countIf isMarked (pm .pic)
       marked-length = down-length (pm .pic)
 
       pick : (m : Bool) → ltb listPlaces (length order) ≡ m → (z : Bool) → eqb (length order) 0 ≡ z
-          → ListsEnd pm refp c (settled pm refp (cond m (turned-down Refusal.TooManyReferences)
+          → ListsEnd pm refp c (listsChosen pm refp (cond m (turned-down Refusal.TooManyReferences)
           (cond z (turned-down Refusal.NoReferences) (withForward (isB (c .«slice_type»)) bwd fwd))))
       pick true m z n = refuses Refusal.TooManyReferences (too-many-marked a (let h = ltb-true listPlaces (length order) m in let e = marked-length in omega arith))
       pick false m true n = refuses Refusal.NoReferences (none-marked a (sym marked-length ∙ eqb-true (length order) 0 n))
@@ -96,8 +96,8 @@ module _ (pm : EvcPm) (refp : List EvcRefP) (c : RefpCall) where
   lists-end = pick (whole pm) refl (ltb highestPoc (c .poc)) refl (isI (c .«slice_type»)) refl
     where
       pick : (w : Bool) → whole pm ≡ w → (h : Bool) → ltb highestPoc (c .poc) ≡ h → (i : Bool) → isI (c .«slice_type») ≡ i
-          → ListsEnd pm refp c (cond (not w) (refused Refusal.StateNotWhole pm refp)
-          (cond h (refused Refusal.NumberTooHigh pm refp) (cond i (counted pm refp) (settled pm refp (choice c order)))))
+          → ListsEnd pm refp c (cond (not w) (listsRefused Refusal.StateNotWhole pm refp)
+          (cond h (listsRefused Refusal.NumberTooHigh pm refp) (cond i (countsShown pm refp) (listsChosen pm refp (choice c order)))))
       pick false w h e i f = refuses Refusal.StateNotWhole (not-whole w)
       pick true w true e i f = refuses Refusal.NumberTooHigh (too-high w (ltb-true highestPoc (c .poc) e))
       pick true w false e true f = no-list w f
@@ -105,15 +105,15 @@ module _ (pm : EvcPm) (refp : List EvcRefP) (c : RefpCall) where
 
   -- ---- from the condition to its number
 
-  asked-answer : Asked pm c → lists pm refp c ≡ settled pm refp (choice c order)
+  asked-answer : Asked pm c → lists pm refp c ≡ listsChosen pm refp (choice c order)
   unfolding lists listsWhole
   asked-answer a = rw (a .is-whole, le-ltb highestPoc (c .poc) (a .number-fits), a .not-i)
 
-  marked-answer : SomeMarked pm c → lists pm refp c ≡ settled pm refp (withForward (isB (c .«slice_type»)) bwd fwd)
+  marked-answer : SomeMarked pm c → lists pm refp c ≡ listsChosen pm refp (withForward (isB (c .«slice_type»)) bwd fwd)
   unfolding choice
   marked-answer m = asked-answer (m .asked) ∙ rw (le-ltb listPlaces (length order) (few m), ne-eqb (length order) 0 (some m))
 
-  pub reason-refuses : {why : Refusal} → ListsReason pm c why → lists pm refp c ≡ refused why pm refp
+  pub reason-refuses : {why : Refusal} → ListsReason pm c why → lists pm refp c ≡ listsRefused why pm refp
   unfolding lists listsWhole choice
   reason-refuses (not-whole w) = rw w
   reason-refuses (too-high w h) = rw (w, lt-ltb highestPoc (c .poc) h)
@@ -191,7 +191,7 @@ taken-holds pm c ks n t = record {
     is-marked k m = down-members (pm .pic) k .0 (t .members k m)
 
 built : (pm : EvcPm) (refp : List EvcRefP) (c : RefpCall) (fwd bwd : List Key) → length refp ≡ listPlaces + listPlaces → Accepted c (down (pm .pic)) fwd bwd
-    → Built pm refp c (listed pm refp fwd bwd)
+    → Built pm refp c (listsWith pm refp fwd bwd)
 built pm refp c fwd bwd n a =
     let f = taken-holds pm c fwd (a .at-most) (forward-taken c (down (pm .pic)) fwd bwd a) in
     let b = taken-holds pm c bwd (a .at-most) (backward-taken c (down (pm .pic)) fwd bwd a) in

@@ -5,7 +5,7 @@ use Prim.Native.Nat.{ℕ, _+_, _-_, _≤_, _<_}
 use native.Mathlib.Omega.{arith}
 use lib.ListN.{length, getD, take, drop, length-map, length-drop, length-append, List·getD-append}
 use lib.Seq.{getD-append-add, getD-drop, getD-take, length-take-le}
-use Rattle.seq.specs.Maps.{map-at}
+use Rattle.seq.proofs.Members.{map-at}
 use Rattle.def.specs.State.{listPlaces, noRefP}
 use Rattle.def.specs.declared.{Slot.Slot, EvcRefP.EvcRefP}
 use Rattle.ordering.specs.Order.{Key}

@@ -6,13 +6,13 @@ use mathlib.Core.Bool.{true, false}
 use mathlib.Core.List.{List, [], map, List·Memᴰ}
 use mathlib.Core.Logic.{_⊎_, _↔_}
 use lib.ListN.{length, getD, set}
-use Rattle.seq.specs.Lists.{count, Distinct}
+use Rattle.seq.specs.Lists.{countIf, Distinct}
 use Rattle.def.specs.State.{listPlaces, highestPoc, noRefP, isMarked, withCounts}
 use Rattle.def.specs.declared.{EvcPm.EvcPm, EvcRefP.EvcRefP, RefpCall.RefpCall, RefpResult.RefpResult, Answer.Answer, Refusal.Refusal}
 use Rattle.whole.specs.Whole.{whole}
 use Rattle.ordering.specs.Order.{Key, down, MarkedKey}
 use Rattle.choosing.specs.Choice.{forwardOf, Accepted}
-use Rattle.refp.specs.Lists.{entryOf, dropped, isI, refused, lists}
+use Rattle.refp.specs.Lists.{entryOf, dropped, isI, listsRefused, lists}
 use Rattle.refp.specs.Copy.{firstEntries, copy}
 
 -- ---- each refusal of a list call under its condition, and under no other
@@ -26,14 +26,14 @@ pub record Asked (pm : EvcPm) (c : RefpCall) : Type 0 where
 -- From 1 to 21 are marked.
 pub record SomeMarked (pm : EvcPm) (c : RefpCall) : Type 0 where
   pub asked : Asked pm c
-  pub at-most : count isMarked (pm .pic) ≤ listPlaces
-  pub some : count isMarked (pm .pic) ≡ 0 → ⊥
+  pub at-most : countIf isMarked (pm .pic) ≤ listPlaces
+  pub some : countIf isMarked (pm .pic) ≡ 0 → ⊥
 
 pub data ListsReason (pm : EvcPm) (c : RefpCall) : Refusal → Type 0 where
   not-whole : whole pm ≡ false → ListsReason pm c Refusal.StateNotWhole
   too-high : whole pm ≡ true → highestPoc < c .poc → ListsReason pm c Refusal.NumberTooHigh
-  too-many-marked : Asked pm c → listPlaces < count isMarked (pm .pic) → ListsReason pm c Refusal.TooManyReferences
-  none-marked : Asked pm c → count isMarked (pm .pic) ≡ 0 → ListsReason pm c Refusal.NoReferences
+  too-many-marked : Asked pm c → listPlaces < countIf isMarked (pm .pic) → ListsReason pm c Refusal.TooManyReferences
+  none-marked : Asked pm c → countIf isMarked (pm .pic) ≡ 0 → ListsReason pm c Refusal.NoReferences
   forward-empty : SomeMarked pm c → forwardOf c (down (pm .pic)) ≡ [] → ListsReason pm c Refusal.ForwardListEmpty
 
 abbrev pub ListsWhy : Type 0
@@ -44,7 +44,7 @@ ListsWhy = (pm : EvcPm) (refp : List EvcRefP) (c : RefpCall) (why : Refusal) →
 -- A call that is turned down changes neither state nor lists, a state that is not whole among them.
 abbrev pub ListsRefusedUnchanged : Type 0
 ListsRefusedUnchanged =
-    (pm : EvcPm) (refp : List EvcRefP) (c : RefpCall) (why : Refusal) → lists pm refp c .answer ≡ Answer.Refused why → lists pm refp c ≡ refused why pm refp
+    (pm : EvcPm) (refp : List EvcRefP) (c : RefpCall) (why : Refusal) → lists pm refp c .answer ≡ Answer.Refused why → lists pm refp c ≡ listsRefused why pm refp
 
 -- A whole state stays whole.
 abbrev pub ListsStayWhole : Type 0

@@ -29,20 +29,20 @@ abbrev pub bothWritten : List Slot → List Key → List Key → List EvcRefP �
 bothWritten xs fwd bwd refp = written xs fwd (take listPlaces refp) ++ written xs bwd (drop listPlaces refp)
 
 -- A call that is turned down changes nothing.
-abbrev pub refused : Refusal → EvcPm → List EvcRefP → RefpResult
-refused why pm refp = record { answer = Answer.Refused why; pm = pm; refp = refp }
+abbrev pub listsRefused : Refusal → EvcPm → List EvcRefP → RefpResult
+listsRefused why pm refp = record { answer = Answer.Refused why; pm = pm; refp = refp }
 
 -- The answer shows the counts of the state.
-abbrev pub counted : EvcPm → List EvcRefP → RefpResult
-counted pm refp = record { answer = Answer.Counts (pm .«num_refp_0») (pm .«num_refp_1»); pm = pm; refp = refp }
+abbrev pub countsShown : EvcPm → List EvcRefP → RefpResult
+countsShown pm refp = record { answer = Answer.Counts (pm .«num_refp_0») (pm .«num_refp_1»); pm = pm; refp = refp }
 
 -- Counts are set at the end.
-abbrev pub listed : EvcPm → List EvcRefP → List Key → List Key → RefpResult
-listed pm refp fwd bwd = counted (withCounts pm (length fwd) (length bwd)) (bothWritten (pm .pic) fwd bwd refp)
+abbrev pub listsWith : EvcPm → List EvcRefP → List Key → List Key → RefpResult
+listsWith pm refp fwd bwd = countsShown (withCounts pm (length fwd) (length bwd)) (bothWritten (pm .pic) fwd bwd refp)
 
-abbrev pub settled : EvcPm → List EvcRefP → Chosen → RefpResult
-settled pm refp (turned-down why) = refused why pm refp
-settled pm refp (chosen fwd bwd) = listed pm refp fwd bwd
+abbrev pub listsChosen : EvcPm → List EvcRefP → Chosen → RefpResult
+listsChosen pm refp (turned-down why) = listsRefused why pm refp
+listsChosen pm refp (chosen fwd bwd) = listsWith pm refp fwd bwd
 
 abbrev pub isI : SliceType → Bool
 isI SliceType.«EVC_ST_UNKNOWN» = false
@@ -54,10 +54,10 @@ isI SliceType.«EVC_ST_B» = false
 unfoldable pub listsWhole : EvcPm → List EvcRefP → RefpCall → RefpResult
 unfolding down choice
 listsWhole pm refp c =
-    cond (ltb highestPoc (c .poc)) (refused Refusal.NumberTooHigh pm refp)
-    (cond (isI (c .«slice_type»)) (counted pm refp) (settled pm refp (choice c (down (pm .pic)))))
+    cond (ltb highestPoc (c .poc)) (listsRefused Refusal.NumberTooHigh pm refp)
+    (cond (isI (c .«slice_type»)) (countsShown pm refp) (listsChosen pm refp (choice c (down (pm .pic)))))
 
 -- State not whole (7) first.
 unfoldable pub lists : EvcPm → List EvcRefP → RefpCall → RefpResult
 unfolding whole listsWhole
-lists pm refp c = cond (not (whole pm)) (refused Refusal.StateNotWhole pm refp) (listsWhole pm refp c)
+lists pm refp c = cond (not (whole pm)) (listsRefused Refusal.StateNotWhole pm refp) (listsWhole pm refp c)

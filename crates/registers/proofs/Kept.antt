@@ -9,7 +9,7 @@ use denote.Laws.{Is}
 use denote.Struct.Declared.{row}
 use Rattle.keys.proofs.Rest as rest
 use Rattle.def.proofs.EvcPoc as poc
-use Rattle.def.specs.Word.{signed-of-complement}
+use Rattle.def.proofs.WordLaws.{signed-of-complement}
 use Rattle.def.specs.declared.EvcPoc.{EvcPoc}
 use Rattle.keys.specs.declared.Rest.{Rest}
 use Rattle.registers.specs.Registers.{highestCount, restOf, pocOf, registersOf}

@@ -9,7 +9,7 @@ use mathlib.Core.List.{List, [], _∷_, _++_, append-assoc}
 use lib.ListN.{length, take}
 use lib.Seq.{take-all, length-take-le}
 use borrow.Author.Tests.{lt-ltb}
-use Rattle.seq.specs.Numbers.{lt-or-ge}
+use Rattle.seq.proofs.Tests.{lt-or-ge}
 use Rattle.buffer.specs.Buffer.{isNewline, lastLine, linesFrom}
 use Rattle.answers.proofs.AnswersRead.{other-length}
 use Rattle.asking.specs.Asked.{Texts, texts, expectedWords, asked}

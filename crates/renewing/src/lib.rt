@@ -1,5 +1,5 @@
 // The new machine, which is all zero, written over whatever stood there.
-use sizing::BAD_LINE;
+use line::BAD_LINE;
 use sizing::is_sized;
 ghost use mathlib.Core.Path.{_≡_};
 ghost use lib.ListN.{length, replicate};

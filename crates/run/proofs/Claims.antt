@@ -15,7 +15,7 @@ use Rattle.run.specs.declared.Session.{Session}
 use Rattle.run.specs.Run.{Runner, endLine, extendLine, feed, feedPieces, finish, start}
 use Rattle.run.specs.Session.{runnerIn, NewSession, newKeys, newRows}
 use Rattle.run.specs.Claims.{Over, at-end, after-piece, RunWrites, RunSound, RunNotSeven}
-use Rattle.run.specs.Partial.{kept}
+use Rattle.run.specs.Partial.{keptLength}
 use Rattle.run.proofs.Kept.{Alike, feed-alike, finish-alike}
 use Rattle.run.proofs.Pieces.{pieces-agree}
 use Rattle.machine.specs.Running.{machineIn}
@@ -35,7 +35,7 @@ over-writes {keys} {rows} {s = s} (after-piece {piece = piece} {pieces} {out′ 
     let wrote : take (ran .len) out′ ≡ feed r piece .written = front out′ _ _ (ran .len) (e .written) (e .length-is) ∙ n .written in
     let next : Alike _ (feed r piece .runner) = record {
       machines = e .machine ∙ n .runners .machines;
-      lines = ap (take kept) (e .line) ∙ take-take kept kept (feed (runnerIn keys rows s) piece .runner .line) (omega arith) ∙ n .runners .lines;
+      lines = ap (take keptLength) (e .line) ∙ take-take keptLength keptLength (feed (runnerIn keys rows s) piece .runner .line) (omega arith) ∙ n .runners .lines;
     } in
     let later = over-writes more (feed r piece .runner) next in
     ap (λ (w : List ℕ). w ++ rest) wrote
@@ -43,7 +43,7 @@ over-writes {keys} {rows} {s = s} (after-piece {piece = piece} {pieces} {out′ 
     ∙ sym (append-assoc (feed r piece .written) (feedPieces (feed r piece .runner) pieces .written) (finish (feedPieces (feed r piece .runner) pieces .runner)))
 
 pub new-alike : (s : Session) → NewSession s → Alike (runnerIn newKeys newRows s) start
-new-alike s new = record { machines = ap (machineIn newKeys newRows) (new .new-scalars) ∙ new-machine newRows refl; lines = ap (take kept) (new .no-line) }
+new-alike s new = record { machines = ap (machineIn newKeys newRows) (new .new-scalars) ∙ new-machine newRows refl; lines = ap (take keptLength) (new .no-line) }
 
 pub run-writes : RunWrites
 run-writes s pieces written new o = over-writes o start (new-alike s new) ∙ pieces-agree pieces

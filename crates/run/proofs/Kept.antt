@@ -14,7 +14,7 @@ use Rattle.line.specs.declared.Line.{Line}
 use Rattle.machine.specs.declared.Machine.{Machine}
 use Rattle.machine.specs.Step.{stepLine}
 use Rattle.run.specs.Run.{Runner, Fed, answersTo, endLine, extendLine, feedByte, feed, finish}
-use Rattle.run.specs.Partial.{kept}
+use Rattle.run.specs.Partial.{keptLength}
 use Rattle.run.proofs.PartialLaws.{kept-reads}
 
 join : {a b c d : List ℕ} → a ≡ b → c ≡ d → a ++ c ≡ b ++ d
@@ -23,7 +23,7 @@ join e f = cc
 -- Two runs that keep the same go on alike.
 pub record Alike (r s : Runner) : Type 0 where
   pub machines : r .machine ≡ s .machine
-  pub lines : take kept (r .line) ≡ take kept (s .line)
+  pub lines : take keptLength (r .line) ≡ take keptLength (s .line)
 
 pub record FedAlike (f g : Fed) : Type 0 where
   pub runners : Alike (f .runner) (g .runner)
@@ -43,7 +43,7 @@ extend-alike {r} {s} c a =
       runners =
           record {
             machines = a .machines;
-            lines = sym (take-more kept (r .line) (c ∷ [])) ∙ ap (λ (l : List ℕ). take kept (l ++ (c ∷ []))) (a .lines) ∙ take-more kept (s .line) (c ∷ []);
+            lines = sym (take-more keptLength (r .line) (c ∷ [])) ∙ ap (λ (l : List ℕ). take keptLength (l ++ (c ∷ []))) (a .lines) ∙ take-more keptLength (s .line) (c ∷ []);
           };
       written = refl;
     }
@@ -79,7 +79,7 @@ pub finish-alike : {r s : Runner} → Alike r s → finish r ≡ finish s
 unfolding answersTo
 finish-alike {r} {s} a = ap (λ (m : Machine). answersTo m (lastLine (r .line))) (a .machines) ∙ by (r .line) (s .line) (a .lines) (alike-reads a)
   where
-    by : (l k : List ℕ) → take kept l ≡ take kept k → readLine l ≡ readLine k → answersTo (s .machine) (lastLine l) ≡ answersTo (s .machine) (lastLine k)
+    by : (l k : List ℕ) → take keptLength l ≡ take keptLength k → readLine l ≡ readLine k → answersTo (s .machine) (lastLine l) ≡ answersTo (s .machine) (lastLine k)
     by [] [] e f = refl
     by [] (c ∷ cs) e f = absurd (let z : _≡_ {A = ℕ} 0 1 = cc in omega arith)
     by (c ∷ cs) [] e f = absurd (let z : _≡_ {A = ℕ} 0 1 = cc in omega arith)

@@ -11,18 +11,18 @@ use lib.Seq.{take-all, length-take-le, take-append-add, paste, take-paste}
 use borrow.Author.Tests.{leb-true, leb-false}
 use Rattle.line.specs.Calls.{readLine}
 use Rattle.line.proofs.CallLaws.{too-long}
-use Rattle.run.specs.Partial.{kept}
+use Rattle.run.specs.Partial.{keptLength}
 
 -- The characters that are kept say what the whole line says.
-pub kept-reads : (l : List ℕ) → readLine (take kept l) ≡ readLine l
-kept-reads l = by (leb (length l) kept) refl
+pub kept-reads : (l : List ℕ) → readLine (take keptLength l) ≡ readLine l
+kept-reads l = by (leb (length l) keptLength) refl
   where
-    by : (b : Bool) → leb (length l) kept ≡ b → readLine (take kept l) ≡ readLine l
-    by true e = ap readLine (take-all kept l (leb-true (length l) kept e))
+    by : (b : Bool) → leb (length l) keptLength ≡ b → readLine (take keptLength l) ≡ readLine l
+    by true e = ap readLine (take-all keptLength l (leb-true (length l) keptLength e))
     by false e =
-        let h : kept < length l = leb-false (length l) kept e in
-        let n : length (take kept l) ≡ kept = length-take-le kept l (omega arith) in
-        too-long (take kept l) (omega arith) ∙ sym (too-long l (omega arith))
+        let h : keptLength < length l = leb-false (length l) keptLength e in
+        let n : length (take keptLength l) ≡ keptLength = length-take-le keptLength l (omega arith) in
+        too-long (take keptLength l) (omega arith) ∙ sym (too-long l (omega arith))
 
 -- What a line holds that gets more characters.
 take-least : (k : ℕ) (l : List ℕ) → take (min k (length l)) l ≡ take k l
@@ -38,17 +38,17 @@ take-least k l = by (leb k (length l)) refl
         let m : length l ≤ min k (length l) = omega arith in
         take-all (min k (length l)) l m ∙ sym (take-all k l (omega arith))
 
-module _ (bytes part : List ℕ) (len : ℕ) (fits : len ≤ kept) (size : length bytes ≡ kept) where
+module _ (bytes part : List ℕ) (len : ℕ) (fits : len ≤ keptLength) (size : length bytes ≡ keptLength) where
   -- how many of the characters there is room for
   abbrev pub more : ℕ
-  more = min (kept - len) (length part)
+  more = min (keptLength - len) (length part)
 
-  pub kept-append : take (len + more) (paste bytes len part more) ≡ take kept (take len bytes ++ part)
+  pub kept-append : take (len + more) (paste bytes len part more) ≡ take keptLength (take len bytes ++ part)
   kept-append =
       let front = take len bytes in
       let n : length front ≡ len = length-take-le len bytes (omega arith) in
-      let room : length front + (kept - len) ≡ kept = omega arith in
+      let room : length front + (keptLength - len) ≡ keptLength = omega arith in
       take-paste bytes len part more (omega arith) (omega arith)
-      ∙ ap (λ (l : List ℕ). front ++ l) (take-least (kept - len) part)
-      ∙ sym (take-append-add front part (kept - len))
+      ∙ ap (λ (l : List ℕ). front ++ l) (take-least (keptLength - len) part)
+      ∙ sym (take-append-add front part (keptLength - len))
       ∙ ap (λ (k : ℕ). take k (front ++ part)) room

@@ -8,13 +8,13 @@ use lib.ListN.{length, take}
 use Rattle.run.specs.declared.partial.Partial.{Partial}
 
 -- How many characters are kept.
-abbrev pub kept : ℕ
-kept = 27
+abbrev pub keptLength : ℕ
+keptLength = 27
 
 abbrev pub heldLine : Partial → List ℕ
 heldLine p = take (p .len) (p .bytes)
 
 -- There are 27 bytes, and the length stays within them.
 pub record Room (p : Partial) : Type 0 where
-  pub bytes-long : length (p .bytes) ≡ kept
-  pub fits : p .len ≤ kept
+  pub bytes-long : length (p .bytes) ≡ keptLength
+  pub fits : p .len ≤ keptLength

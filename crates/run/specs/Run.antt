@@ -1,4 +1,4 @@
--- Document 01, "Program": calls are read from the input, one a line, and their answers are written, one a line.
+-- Section 11 of the specification: calls are read from the input, one a line, and their answers are written, one a line.
 -- Assumes nothing.
 use Prim.Native.Nat.{ℕ}
 use mathlib.Core.Path.{_≡_}

@@ -13,7 +13,7 @@ use Rattle.line.specs.Calls.{readLine}
 use Rattle.line.specs.Lines.{lineEnd, lineAt}
 use Rattle.machine.specs.Running.{machineIn, newScalars, Runs}
 use Rattle.run.specs.declared.{NextLine.NextLine, Session.Session, Ran.Ran}
-use Rattle.run.specs.Partial.{kept, heldLine, Room}
+use Rattle.run.specs.Partial.{keptLength, heldLine, Room}
 use Rattle.run.specs.Run.{Runner, feed, finish}
 
 -- The line of an answer has 17 characters.
@@ -59,7 +59,7 @@ pub record RanOver (keys rows : List ℕ) (s : Session) (piece out : List ℕ) (
   pub written : out′ ≡ feed (runnerIn keys rows s) piece .written ++ drop (r .len) out
   pub length-is : r .len ≡ length (feed (runnerIn keys rows s) piece .written)
   pub machine : machineIn keys′ rows′ (r .session .scalars) ≡ feed (runnerIn keys rows s) piece .runner .machine
-  pub line : heldLine (r .session .partial) ≡ take kept (feed (runnerIn keys rows s) piece .runner .line)
+  pub line : heldLine (r .session .partial) ≡ take keptLength (feed (runnerIn keys rows s) piece .runner .line)
   pub stays-sound : SoundSession keys′ rows′ (r .session)
 
 pub record EndRoom (keys rows : List ℕ) (s : Session) (tables out : List ℕ) : Type 0 where

@@ -4,12 +4,10 @@
 pub mod partial;
 
 use buffer::line_end;
-use def::Refusal;
-use def::refusal_number;
 use hex::tables::TABLE_SIZE;
 use line::Line;
 use line::LineAt;
-use line::Reply;
+use line::bad_line_reply;
 use machine::Made;
 use machine::Scalars;
 use machine::calls::make_call;
@@ -29,8 +27,6 @@ ghost use Rattle.machine.specs.Step.{stepLine};
 ghost use Rattle.machine.specs.Running.{machineIn, Runs, Makes};
 ghost use Rattle.run.specs.Partial.{heldLine, Room};
 ghost use Rattle.run.specs.Session.{NextIs, NewSession, RunRoom, RanOver, EndRoom, EndedOver};
-
-const NO_BUFFER: u8 = 0xff;
 
 // What goes from piece to piece beside the lent arrays: the machine's scalars, and the line that is not finished yet.
 pub struct Session {
@@ -95,12 +91,7 @@ fn next_line(tables: &[u16; TABLE_SIZE], partial: Partial, piece: &[u8], at: usi
 fn bad_line(scalars: Scalars) -> Made
     ensures { λ r. ⌜ r ≡ record { reply = badLineReply; scalars = scalars } ⌝ }
 {
-    let reply = Reply {
-        call: 0,
-        status: refusal_number(Refusal::BadLine),
-        buf: NO_BUFFER,
-        value: 0,
-    };
+    let reply = bad_line_reply();
     Made { reply, scalars }
 }
 

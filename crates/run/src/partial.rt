@@ -9,7 +9,7 @@ ghost use mathlib.Core.List.{[], _++_};
 ghost use Prim.Native.Nat.{min};
 ghost use lib.ListN.{take};
 ghost use Rattle.line.specs.Calls.{readLine};
-ghost use Rattle.run.specs.Partial.{kept, heldLine, Room};
+ghost use Rattle.run.specs.Partial.{keptLength, heldLine, Room};
 
 pub const KEPT: usize = LONGEST_LINE + 1;
 
@@ -37,7 +37,7 @@ fn least(a: usize, b: usize) -> usize
 // The line with more characters behind it.
 pub fn extended(partial: Partial, part: &[u8]) -> Partial
     requires { ⌜ Room partial ⌝ }
-    ensures { λ r. ⌜ (heldLine r ≡ take kept (heldLine partial ++ now (part .entry))) × Room r ⌝ }
+    ensures { λ r. ⌜ (heldLine r ≡ take keptLength (heldLine partial ++ now (part .entry))) × Room r ⌝ }
 {
     let mut bytes = partial.bytes;
     let len = partial.len;

@@ -9,9 +9,9 @@ use mathlib.Core.List.{List, [], foldl}
 use lib.Dec.{eqb}
 use lib.ListN.{getD}
 use borrow.Author.Tests.{le-leb, lt-leb}
-use Rattle.seq.specs.Lists.{lowest}
-use Rattle.seq.specs.Numbers.{lt-or-ge}
-use Rattle.seq.specs.Table.{entries, entriesFrom, entry}
+use Rattle.seq.specs.Lists.{lowest, entries, entriesFrom}
+use Rattle.seq.proofs.Tests.{lt-or-ge}
+use Rattle.seq.proofs.Rows.{entry}
 use Rattle.def.specs.declared.Refusal.{Refusal}
 use Rattle.def.specs.Refusals.{refusalNumber, numberInUse, NumberInUse}
 use Rattle.def.proofs.Refusals.{refusals-in-use}

@@ -10,9 +10,9 @@ use lib.Dec.{ltb, eqb}
 use lib.ListN.{length, getD, take, drop, length-drop}
 use lib.Seq.{length-take-le, getD-drop, take-at}
 use borrow.Author.Tests.{ltb-true, lt-ltb, eqb-true, eqb-false}
-use Rattle.seq.specs.Lists.{all, lowest}
-use Rattle.seq.specs.All.{and-left, and-right}
-use Rattle.seq.specs.Lowest.{lowest-le, lowest-passes}
+use Rattle.seq.specs.Lists.{allOf, lowest}
+use Rattle.seq.proofs.Tests.{and-left, and-right}
+use Rattle.seq.proofs.Walks.{lowest-le, lowest-passes}
 use Rattle.line.specs.declared.Call.{Call}
 use Rattle.line.specs.declared.Line.{Line}
 use Rattle.line.specs.declared.Line.the-variants.{Good, Bad}
@@ -57,10 +57,10 @@ module _ (cs : List ℕ) (i : ℕ) where
       by-hex h true e =
           let m = lowest isNewline (drop i cs) in
           let long : length (lineAt cs i) ≡ m = length-take-le m (drop i cs) (lowest-le 0 isNewline (drop i cs)) in
-          let even : length (lineAt cs i) % 2 ≡ 0 = eqb-true (length (lineAt cs i) % 2) 0 (and-right (all isDigit (lineAt cs i)) (eqb (length (lineAt cs i) % 2) 0) e) in
+          let even : length (lineAt cs i) % 2 ≡ 0 = eqb-true (length (lineAt cs i) % 2) 0 (and-right (allOf isDigit (lineAt cs i)) (eqb (length (lineAt cs i) % 2) 0) e) in
           let half : m ≡ 2 * (m / 2) = omega arith in
           let inside : m < length (drop i cs) = omega (arith, length-drop i cs) in
-          let digits : all isDigit (take (2 * (m / 2)) (drop i cs)) ≡ true = rw (← half) (and-left (all isDigit (lineAt cs i)) (eqb (length (lineAt cs i) % 2) 0) e) in
+          let digits : allOf isDigit (take (2 * (m / 2)) (drop i cs)) ≡ true = rw (← half) (and-left (allOf isDigit (lineAt cs i)) (eqb (length (lineAt cs i) % 2) 0) e) in
           let ends : isNewline (getD cs (i + m) 0) ≡ true = rw (← getD-drop i cs m 0) (lowest-passes 0 isNewline (drop i cs) inside) in
           line (m / 2) (sym (pairs-hex cs i (m / 2) (omega arith)) ∙ digits) (rw (← half) ends)
 

@@ -6,7 +6,7 @@ use Prim.Native.Nat.{ℕ, _+_, _≤_, _<_}
 use native.Mathlib.Omega.{arith}
 use lib.ListN.{length, take, set, getD, length-set}
 use lib.Seq.{take-all}
-use Rattle.seq.specs.Commute.{copy-turn}
+use Rattle.seq.proofs.Maps.{copy-turn}
 
 -- Of two lists of n numbers, the first i are the same.
 pub record Copied (from : List ℕ) (n i : ℕ) (to : List ℕ) : Type 0 where

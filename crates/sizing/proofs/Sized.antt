@@ -5,7 +5,7 @@ use mathlib.Core.Bool.{true, _&&_}
 use lib.Dec.{eqb}
 use lib.ListN.{length}
 use borrow.Author.Tests.{eqb-true}
-use Rattle.seq.specs.All.{and-left, and-right}
+use Rattle.seq.proofs.Tests.{and-left, and-right}
 use Rattle.def.specs.State.{slots}
 use Rattle.keys.specs.Keys.{rowsLength, Sized}
 use Rattle.registers.specs.Registers.{registersLength}

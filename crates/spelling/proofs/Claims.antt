@@ -9,8 +9,8 @@ use mathlib.Core.Logic.{⊎-elim}
 use mathlib.Core.List.{List, [], _∷_, foldl}
 use lib.Dec.{ltb, eqb}
 use borrow.Author.Tests.{lt-ltb, le-ltb, le-leb, ne-eqb, eqb-true, eqb-false}
-use Rattle.seq.specs.Lists.{all}
-use Rattle.seq.specs.Numbers.{lt-or-ge}
+use Rattle.seq.specs.Lists.{allOf}
+use Rattle.seq.proofs.Tests.{lt-or-ge}
 use Rattle.line.specs.declared.Call.{Call}
 use Rattle.line.specs.declared.Call.the-variants.{Init, GetEmptyPic, PutPic, OutPic, RefpInit, PocDerivation}
 use Rattle.line.specs.Claims.{CallFits}
@@ -28,7 +28,7 @@ use Rattle.spelling.proofs.Digits.{DigitsRead, digits-read, read-decima
 use Rattle.spelling.proofs.Plain.{isPlain, Plain, AllPlain, none, more, words-spaced, plain-decimal}
 
 -- A word that is written out.
-spelled : {c : ℕ} {cs : List ℕ} → all isPlain (c ∷ cs) ≡ true → Plain (c ∷ cs)
+spelled : {c : ℕ} {cs : List ℕ} → allOf isPlain (c ∷ cs) ≡ true → Plain (c ∷ cs)
 spelled {c} {cs} e = record { first = c; rest = cs; parts = refl; plain = e }
 
 read-words : (ws : List (List ℕ)) → AllPlain ws → readCommand (spaced ws) ≡ finished (stepOver begun ws)
@@ -137,7 +137,7 @@ flag-sum n h =
 -- ---- slices and signed numbers
 
 plain-slice : (slice : ℕ) → Plain (sliceName slice)
-unfolding all
+unfolding allOf
 plain-slice slice = by (eqb slice 1) (eqb slice 2) (eqb slice 3)
   where
     by : (a b c : Bool) → Plain (cond a (chars "I") (cond b (chars "P") (cond c (chars "B") (decimal slice))))
@@ -162,7 +162,7 @@ slice-read slice h = by (eqb slice 1) refl (eqb slice 2) refl (eqb slice 3) refl
     by false e false f false g = number-slice slice h
 
 signed-plain : (n : ℕ) → Plain (signedDecimal n)
-unfolding all
+unfolding allOf
 signed-plain n = by (ltb n 2147483648)
   where
     minus : (m : ℕ) → Plain (45 ∷ decimal m)
@@ -211,7 +211,7 @@ word-fits : (n : ℕ) → n < 2 ^ 32 → isNumber (wordOf (decimal n)) 429496729
 word-fits n h = number-fits n 4294967295 h (omega arith)
 
 plain-flags : (a b c d : Bool) → AllPlain (flagNames a b c d)
-unfolding all
+unfolding allOf
 plain-flags false false false false = none
 plain-flags false false false true = more (spelled refl) (none)
 plain-flags false false true false = more (spelled refl) (none)
@@ -312,7 +312,7 @@ put-finished flags poc layer gap h =
     ∙ ap (λ (n : ℕ). Command.Call (PutPic n poc layer gap)) (flag-sum flags h)
 
 pub said-is-read : SaidIsRead
-unfolding stepOver CallFits all
+unfolding stepOver CallFits allOf
 said-is-read (Init size refs) f =
     read-as (Init size refs) (more (spelled refl) (more (plain-decimal size) (more (plain-decimal refs) none))) (ap finished (init-over size refs f))
 said-is-read GetEmptyPic f = read-as GetEmptyPic (more (spelled refl) none) (get-out .0)

@@ -9,7 +9,7 @@ use mathlib.Core.Logic.{⊎-elim}
 use mathlib.Core.List.{foldl}
 use lib.Dec.{ltb, eqb}
 use borrow.Author.Tests.{lt-ltb, le-ltb, le-leb, ne-eqb}
-use Rattle.seq.specs.Numbers.{lt-or-ge}
+use Rattle.seq.proofs.Tests.{lt-or-ge}
 use Rattle.phrases.specs.Phrases.{decimalFrom, decimal}
 use Rattle.tokens.specs.declared.Word.{Word}
 use Rattle.tokens.specs.Words.{isSign, codeWith, wordWith, emptyWord, longer, wordOf, isNumber}

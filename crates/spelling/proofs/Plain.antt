@@ -8,8 +8,8 @@ use mathlib.Core.Bool as Bool
 use mathlib.Core.List.{List, [], _∷_, _++_, append-assoc, append-nil}
 use lib.Dec.{ltb}
 use borrow.Author.Tests.{ne-eqb, ltb-true}
-use Rattle.seq.specs.Lists.{all}
-use Rattle.seq.specs.All.{and-left, and-right}
+use Rattle.seq.specs.Lists.{allOf}
+use Rattle.seq.proofs.Tests.{and-left, and-right}
 use Rattle.phrases.specs.Phrases.{decimalFrom, decimal}
 use Rattle.tokens.specs.Words.{isSpace, isHash, lastWord, wordsFrom}
 use Rattle.spelling.specs.Spelling.{spaced}
@@ -22,7 +22,7 @@ pub record Plain (w : List ℕ) : Type 0 where
   pub first : ℕ
   pub rest : List ℕ
   pub parts : w ≡ first ∷ rest
-  pub plain : all isPlain w ≡ true
+  pub plain : allOf isPlain w ≡ true
 
 pub data AllPlain : List (List ℕ) → Type 0 where
   none : AllPlain []
@@ -32,15 +32,15 @@ not-true : (b : Bool) → not b ≡ true → b ≡ false
 not-true true e = absurd (Bool.false≢true e)
 not-true false e = refl
 
-taken-in : (held w rest : List ℕ) → all isPlain w ≡ true → wordsFrom held (w ++ rest) ≡ wordsFrom (held ++ w) rest
-unfolding wordsFrom all
+taken-in : (held w rest : List ℕ) → allOf isPlain w ≡ true → wordsFrom held (w ++ rest) ≡ wordsFrom (held ++ w) rest
+unfolding wordsFrom allOf
 taken-in held [] rest e = ap (λ (h : List ℕ). wordsFrom h rest) (sym (append-nil held))
 taken-in held (c ∷ w) rest e =
-    let this = and-left (isPlain c) (all isPlain w) e in
+    let this = and-left (isPlain c) (allOf isPlain w) e in
     let hash = not-true (isHash c) (and-left (not (isHash c)) (not (isSpace c)) this) in
     let space = not-true (isSpace c) (and-right (not (isHash c)) (not (isSpace c)) this) in
     rw (hash, space)
-    (taken-in (held ++ (c ∷ [])) w rest (and-right (isPlain c) (all isPlain w) e) ∙ ap (λ (h : List ℕ). wordsFrom h rest) (append-assoc held (c ∷ []) w))
+    (taken-in (held ++ (c ∷ [])) w rest (and-right (isPlain c) (allOf isPlain w) e) ∙ ap (λ (h : List ℕ). wordsFrom h rest) (append-assoc held (c ∷ []) w))
 
 last-plain : (w : List ℕ) → Plain w → lastWord w ≡ w ∷ []
 last-plain w p = rw (p .parts)
@@ -55,26 +55,26 @@ words-spaced (w ∷ v ∷ ws) (more p ps) =
     ∙ ap (λ (l : List (List ℕ)). l ++ wordsFrom [] (spaced (v ∷ ws))) (last-plain w p)
     ∙ ap (λ (l : List (List ℕ)). w ∷ l) (words-spaced (v ∷ ws) ps)
 
-all-append : (p : ℕ → Bool) (xs ys : List ℕ) → all p xs ≡ true → all p ys ≡ true → all p (xs ++ ys) ≡ true
-unfolding all
+all-append : (p : ℕ → Bool) (xs ys : List ℕ) → allOf p xs ≡ true → allOf p ys ≡ true → allOf p (xs ++ ys) ≡ true
+unfolding allOf
 all-append p [] ys e f = f
-all-append p (x ∷ xs) ys e f = rw (and-left (p x) (all p xs) e, all-append p xs ys (and-right (p x) (all p xs) e) f)
+all-append p (x ∷ xs) ys e f = rw (and-left (p x) (allOf p xs) e, all-append p xs ys (and-right (p x) (allOf p xs) e) f)
 
 plain-digit : (d : ℕ) → d < 10 → isPlain (48 + d) ≡ true
 plain-digit d h =
     rw (ne-eqb (48 + d) 35 (λ e. omega arith), ne-eqb (48 + d) 32 (λ e. omega arith), ne-eqb (48 + d) 9 (λ e. omega arith), ne-eqb (48 + d) 13 (λ e. omega arith))
 
-plain-digits : (k n : ℕ) → all isPlain (decimalFrom k n) ≡ true
-unfolding decimalFrom all
+plain-digits : (k n : ℕ) → allOf isPlain (decimalFrom k n) ≡ true
+unfolding decimalFrom allOf
 plain-digits zero n = refl
 plain-digits (suc k) n = by (ltb n 10) refl (plain-digits k (n / 10))
   where
-    by : (b : Bool) → ltb n 10 ≡ b → all isPlain (decimalFrom k (n / 10)) ≡ true → all isPlain (cond b ((48 + n) ∷ []) (decimalFrom k (n / 10) ++ ((48 + n % 10) ∷ []))) ≡ true
+    by : (b : Bool) → ltb n 10 ≡ b → allOf isPlain (decimalFrom k (n / 10)) ≡ true → allOf isPlain (cond b ((48 + n) ∷ []) (decimalFrom k (n / 10) ++ ((48 + n % 10) ∷ []))) ≡ true
     by true e p = rw (plain-digit n (ltb-true n 10 e))
     by false e p = all-append isPlain (decimalFrom k (n / 10)) ((48 + n % 10) ∷ []) p (rw (plain-digit (n % 10) (omega arith)))
 
 -- A list that ends with an element begins with one.
-snoc-begins : (xs : List ℕ) (x : ℕ) → all isPlain (xs ++ (x ∷ [])) ≡ true → Plain (xs ++ (x ∷ []))
+snoc-begins : (xs : List ℕ) (x : ℕ) → allOf isPlain (xs ++ (x ∷ [])) ≡ true → Plain (xs ++ (x ∷ []))
 snoc-begins [] x e = record { first = x; rest = []; parts = refl; plain = e }
 snoc-begins (y ∷ xs) x e = record { first = y; rest = xs ++ (x ∷ []); parts = refl; plain = e }
 
@@ -82,6 +82,6 @@ pub plain-decimal : (n : ℕ) → Plain (decimal n)
 unfolding decimalFrom
 plain-decimal n = by (ltb n 10) (plain-digits 20 n)
   where
-    by : (b : Bool) → all isPlain (cond b ((48 + n) ∷ []) (decimalFrom 19 (n / 10) ++ ((48 + n % 10) ∷ []))) ≡ true → Plain (cond b ((48 + n) ∷ []) (decimalFrom 19 (n / 10) ++ ((48 + n % 10) ∷ [])))
+    by : (b : Bool) → allOf isPlain (cond b ((48 + n) ∷ []) (decimalFrom 19 (n / 10) ++ ((48 + n % 10) ∷ []))) ≡ true → Plain (cond b ((48 + n) ∷ []) (decimalFrom 19 (n / 10) ++ ((48 + n % 10) ∷ [])))
     by true e = record { first = 48 + n; rest = []; parts = refl; plain = e }
     by false e = snoc-begins (decimalFrom 19 (n / 10)) (48 + n % 10) e

@@ -11,12 +11,10 @@ use borrow.Author.Tests.{eqb-true, eqb-false, not-true, not-false}
 use lib.Dec.{eqb}
 use lib.ListN.{length, drop, getD, set}
 use lib.Seq.{getD-set-same, getD-set-other, set-getD}
-use Rattle.seq.specs.Lists.{any, select, lowest, smallestNotIn}
-use Rattle.seq.specs.Numbers.{lt-or-ge}
-use Rattle.seq.specs.All.{not-any, any-not}
-use Rattle.seq.specs.Smallest.{smallest, smallest-le}
-use Rattle.seq.specs.Lowest.{lowest-passes, below-lowest}
-use Rattle.seq.specs.Walks.{drop-step}
+use Rattle.seq.specs.Lists.{anyOf, select, lowest, smallestNotIn}
+use Rattle.seq.proofs.Tests.{lt-or-ge, not-any, any-not}
+use Rattle.seq.proofs.Smallest.{smallest, smallest-le}
+use Rattle.seq.proofs.Walks.{lowest-passes, below-lowest, drop-step}
 use Rattle.keys.specs.Keys.{keyPresent, keyBuffer, keyBuffers}
 use Rattle.store.specs.Search.{buffers, Held}
 
@@ -33,26 +31,26 @@ flags-or false x y r = refl
 
 -- The first key's buffer number is flagged if a picture is there, and the rest is left.
 flag-cons : (k : ℕ) (ks : List ℕ) (flags : List Bool) (b : ℕ) → keyBuffer k < length flags
-    → (getD (set flags (keyBuffer k) (getD flags (keyBuffer k) false || keyPresent k)) b false || any (eqb b) (keyBuffers ks))
-    ≡ (getD flags b false || any (eqb b) (keyBuffers (k ∷ ks)))
-unfolding any select
+    → (getD (set flags (keyBuffer k) (getD flags (keyBuffer k) false || keyPresent k)) b false || anyOf (eqb b) (keyBuffers ks))
+    ≡ (getD flags b false || anyOf (eqb b) (keyBuffers (k ∷ ks)))
+unfolding anyOf select
 flag-cons k ks flags b l = pick (keyPresent k)
   where
     n : ℕ
     n = keyBuffer k
 
-    pick : (p : Bool) → (getD (set flags n (getD flags n false || p)) b false || any (eqb b) (keyBuffers ks))
-        ≡ (getD flags b false || any (eqb b) (map keyBuffer (cond p (k ∷ select keyPresent ks) (select keyPresent ks))))
+    pick : (p : Bool) → (getD (set flags n (getD flags n false || p)) b false || anyOf (eqb b) (keyBuffers ks))
+        ≡ (getD flags b false || anyOf (eqb b) (map keyBuffer (cond p (k ∷ select keyPresent ks) (select keyPresent ks))))
     pick true =
         rw (flag-set flags n b (getD flags n false || true) l)
-        (flags-or (eqb b n) (getD flags n false) (getD flags b false) (any (eqb b) (keyBuffers ks)))
+        (flags-or (eqb b n) (getD flags n false) (getD flags b false) (anyOf (eqb b) (keyBuffers ks)))
     pick false = rw (or-false (getD flags n false), set-getD flags n false)
 
 -- The same for the key at place i, whose buffer number is n.
 pub flag-step : (keys : List ℕ) (flags : List Bool) (i n : ℕ) (p : Bool) (b : ℕ) → i < length keys → n ≡ keyBuffer (getD keys i 0) → p ≡ keyPresent (getD keys i 0)
     → n < length flags
-    → (getD (set flags n (getD flags n false || p)) b false || any (eqb b) (keyBuffers (drop (i + 1) keys)))
-    ≡ (getD flags b false || any (eqb b) (keyBuffers (drop i keys)))
+    → (getD (set flags n (getD flags n false || p)) b false || anyOf (eqb b) (keyBuffers (drop (i + 1) keys)))
+    ≡ (getD flags b false || anyOf (eqb b) (keyBuffers (drop i keys)))
 flag-step keys flags i n p b h e f l =
     rw (drop-step 0 keys i h, e, f) (flag-cons (getD keys i 0) (drop (i + 1) keys) flags b (rw e at l))
 

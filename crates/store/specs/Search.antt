@@ -1,4 +1,4 @@
--- Document 01, "Get": a new picture gets the smallest buffer number that no slot holds.
+-- Section 8 of the specification, get: a new picture gets the smallest buffer number that no slot holds.
 -- Assumes nothing.
 use mathlib.Core.Path.{_≡_}
 use mathlib.Core.Bool.{Bool, false}
@@ -6,7 +6,7 @@ use mathlib.Core.List.{List}
 use Prim.Native.Nat.{ℕ, _<_}
 use lib.Dec.{eqb}
 use lib.ListN.{length, getD}
-use Rattle.seq.specs.Lists.{any, smallestNotIn}
+use Rattle.seq.specs.Lists.{anyOf, smallestNotIn}
 use Rattle.keys.specs.Keys.{keyBuffers}
 
 abbrev pub lastSlot : ℕ
@@ -22,4 +22,4 @@ keyFree keys = smallestNotIn (keyBuffers keys)
 -- The flags say of each buffer number whether it stands among the numbers.
 pub record Held (ns : List ℕ) (flags : List Bool) : Type 0 where
   pub size : length flags ≡ buffers
-  pub flag : (b : ℕ) → b < buffers → getD flags b false ≡ any (eqb b) ns
+  pub flag : (b : ℕ) → b < buffers → getD flags b false ≡ anyOf (eqb b) ns

@@ -2,7 +2,7 @@
 ghost use mathlib.Core.Path.{_≡_};
 ghost use mathlib.Core.Bool.{not};
 ghost use lib.ListN.{length};
-ghost use Rattle.seq.specs.Lists.{count, lowest, highest};
+ghost use Rattle.seq.specs.Lists.{countIf, lowest, highest};
 ghost use Rattle.def.specs.State.{slots};
 ghost use Rattle.keys.specs.Keys.{keyIdle, keyEmpty, keyMarked, keyBuffers};
 ghost use Rattle.store.specs.Search.{buffers, keyFree, Held};
@@ -44,7 +44,7 @@ pub fn highest_empty(keys: &[u64]) -> usize
 
 pub fn count_marked(keys: &[u64]) -> u8
     requires { ⌜ length (now keys) ≡ slots ⌝ }
-    ensures { λ r. ⌜ r ≡ count keyMarked (now (keys .entry)) ⌝ }
+    ensures { λ r. ⌜ r ≡ countIf keyMarked (now (keys .entry)) ⌝ }
 {
     let mut marked: u8 = 0;
     let mut i: usize = 0;

@@ -4,7 +4,7 @@ ghost use mathlib.Core.Bool.{not, _&&_};
 ghost use Prim.Native.Nat.{_%_};
 ghost use lib.Dec.{ltb, eqb};
 ghost use lib.ListN.{length};
-ghost use Rattle.seq.specs.Lists.{count};
+ghost use Rattle.seq.specs.Lists.{countIf};
 ghost use Rattle.def.specs.State.{slots};
 ghost use Rattle.marking.specs.OnKeys.{keyOutdated, Picks, keySweep};
 use keys::SLOTS;
@@ -51,7 +51,7 @@ pub fn pick_outdated(keys: &[u64], gap: u32, picks: &mut [bool; SLOTS])
 // How many are not picked: the place of the first that is, after the sweep.
 fn count_kept(picks: &[bool; SLOTS]) -> usize
     requires { ⌜ length (now picks) ≡ slots ⌝ }
-    ensures { λ r. ⌜ r ≡ count not (now (picks .entry)) ⌝ }
+    ensures { λ r. ⌜ r ≡ countIf not (now (picks .entry)) ⌝ }
 {
     let mut n: usize = 0;
     let mut i: usize = 0;

@@ -8,7 +8,8 @@ use lib.Dec.{eqb}
 use lib.Arith.{digits-div, digits-mod, digits-lt}
 use lib.ListN.{getD}
 use borrow.Author.Tests.{eqb-true}
-use Rattle.seq.specs.Table.{entries, entry}
+use Rattle.seq.specs.Lists.{entries}
+use Rattle.seq.proofs.Rows.{entry}
 use Rattle.def.specs.declared.Refusal.the-variants.{BadLength}
 use Rattle.tbl.specs.declared.SliceDepth.{SliceDepth}
 use Rattle.tbl.specs.declared.SliceDepth.the-variants.{Depth, Refused}

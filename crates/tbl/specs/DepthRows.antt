@@ -1,4 +1,4 @@
--- Document 01, "Constants and depth rows": the depth at each position of a group of 2^k pictures, k from 1 to 4.
+-- Section 4 of the specification: the depth at each position of a group of 2^k pictures, k from 1 to 4.
 -- Assumes nothing.
 use Prim.Native.Nat.{ℕ, _+_, _-_}
 use mathlib.Core.Bool.{Bool, cond, _&&_, _||_}

@@ -11,16 +11,15 @@ use native.Mathlib.Omega.{arith}
 use lib.Dec.{leb, ltb, eqb}
 use lib.ListN.{replicate}
 use borrow.Author.Tests.{lt-ltb, le-ltb, le-leb, lt-leb, eqb-true, eqb-false, not-true}
-use Rattle.seq.specs.Numbers.{lt-or-ge}
-use Rattle.seq.specs.Lists.{all, count, select, allDiffer}
-use Rattle.seq.specs.All.{all-holds}
-use Rattle.seq.specs.Commute.{map-append, map-count}
+use Rattle.seq.proofs.Tests.{lt-or-ge, all-holds}
+use Rattle.seq.specs.Lists.{allOf, countIf, select, allDiffer}
+use Rattle.seq.proofs.Maps.{map-append, map-count}
 use Rattle.def.specs.declared.Slot.{Slot}
 use Rattle.def.specs.State.{slots, listPlaces, highestPoc, isPresent, isMarked}
 use Rattle.keys.specs.declared.Rest.{Rest}
 use Rattle.keys.specs.Keys.{keyPresent, keyMarked, keyRef, keyOut, keyBuffer, keyLayer, keyNumber, slotAt, stands}
 use Rattle.keys.proofs.KeyLaws.{buffers-same}
-use Rattle.whole.specs.Laws.{six}
+use Rattle.whole.proofs.Laws.{six}
 use Rattle.whole.specs.declared.Tally.{Tally}
 use Rattle.whole.specs.Whole.{whole, places, heldBuffers, zeroIfEmpty, pocFits}
 use Rattle.whole.specs.Tallies.{noTally, tallied, tallyAll}
@@ -46,17 +45,17 @@ module _ (rows : List ℕ) (k : ℕ) where
   -- the test of an empty slot, at the numbers that a key without a picture stands for
   abbrev fields : Bool
   fields =
-      eqb (keyBuffer k) 0 && eqb (keyNumber k) 0 && not (keyRef k) && not (keyOut k) && eqb (keyLayer k) 0 && all (λ n. eqb n 0) (replicate listPlaces 0)
+      eqb (keyBuffer k) 0 && eqb (keyNumber k) 0 && not (keyRef k) && not (keyOut k) && eqb (keyLayer k) 0 && allOf (λ n. eqb n 0) (replicate listPlaces 0)
 
   zeros : (t : Bool) → eqb k 0 ≡ t → keyPresent k ≡ false → fields ≡ t
-  unfolding all
+  unfolding allOf
   zeros true e absent = let z = eqb-true k 0 e in rw z refl
   zeros false e absent = by fields refl
     where
       by : (t : Bool) → fields ≡ t → t ≡ false
       by false f = refl
       by true f =
-          let h = six (eqb (keyBuffer k) 0) (eqb (keyNumber k) 0) (not (keyRef k)) (not (keyOut k)) (eqb (keyLayer k) 0) (all (λ n. eqb n 0) (replicate listPlaces 0)) f in
+          let h = six (eqb (keyBuffer k) 0) (eqb (keyNumber k) 0) (not (keyRef k)) (not (keyOut k)) (eqb (keyLayer k) 0) (allOf (λ n. eqb n 0) (replicate listPlaces 0)) f in
           absurd (eqb-false k 0 e (no-bits k (eqb-false (k % 2) 1 absent)
           (eqb-true (keyBuffer k) 0 (h .0))
           (eqb-true (keyNumber k) 0 (h .1))
@@ -80,8 +79,8 @@ module _ (rows : List ℕ) (k : ℕ) where
 
 -- ---- all keys
 
-all-mapped : {A B : Type 0} (f : A → B) (p : B → Bool) (q : A → Bool) → ((x : A) → p (f x) ≡ q x) → (xs : List A) → all p (map f xs) ≡ all q xs
-unfolding all
+all-mapped : {A B : Type 0} (f : A → B) (p : B → Bool) (q : A → Bool) → ((x : A) → p (f x) ≡ q x) → (xs : List A) → allOf p (map f xs) ≡ allOf q xs
+unfolding allOf
 all-mapped f p q h [] = refl
 all-mapped f p q h (x ∷ xs) = ap₂ (λ (a b : Bool). a && b) (h x) (all-mapped f p q h xs)
 
@@ -90,7 +89,7 @@ unfolding tallyAll
 tally-last t [] k = refl
 tally-last t (x ∷ ks) k = tally-last (tallied t x) ks k
 
-none-seen : (ns : List ℕ) → all (unseen 0) ns ≡ true
+none-seen : (ns : List ℕ) → allOf (unseen 0) ns ≡ true
 none-seen ns = all-holds (unseen 0) ns (λ n m. ap (λ (x : ℕ). eqb (x % 2) 0) (zero-div (2 ^ n)))
 
 in-order : (a b c d e f z p r u : Bool)
@@ -132,15 +131,15 @@ module _ (keys rows : List ℕ) (rest : Rest) where
       && eqb (every .set) (every .sum)
 
   pub whole-told : (some every : Tally) → some ≡ tallyAll noTally keys → every ≡ tallied some (rest .lease) → told some every ≡ whole (stands keys rows rest)
-  unfolding whole all
+  unfolding whole allOf
   whole-told some every es ee =
       rw (occupied, marked, stray, high, below, differ)
       (in-order (leb (rest .«max_pb_size») slots) (leb (rest .«max_num_ref_pics») listPlaces) (leb (rest .«num_refp_0») listPlaces) (leb (rest .«num_refp_1») listPlaces)
-      (eqb (rest .«cur_pb_size») (count isPresent (map (slotAt rows) keys)))
-      (eqb (rest .«cur_num_ref_pics») (count isMarked (map (slotAt rows) keys)))
-      (all zeroIfEmpty (places (stands keys rows rest)))
-      (all pocFits (places (stands keys rows rest)))
-      (all below27 (heldBuffers (stands keys rows rest)))
+      (eqb (rest .«cur_pb_size») (countIf isPresent (map (slotAt rows) keys)))
+      (eqb (rest .«cur_num_ref_pics») (countIf isMarked (map (slotAt rows) keys)))
+      (allOf zeroIfEmpty (places (stands keys rows rest)))
+      (allOf pocFits (places (stands keys rows rest)))
+      (allOf below27 (heldBuffers (stands keys rows rest)))
       (allDiffer (heldBuffers (stands keys rows rest))))
     where
       g : Gathered noTally (tallyAll noTally keys) keys
@@ -155,26 +154,26 @@ module _ (keys rows : List ℕ) (rest : Rest) where
       none-before : (n : ℕ) → 0 + n ≡ n
       none-before n = omega arith
 
-      occupied : some .occupied ≡ count isPresent (map (slotAt rows) keys)
+      occupied : some .occupied ≡ countIf isPresent (map (slotAt rows) keys)
       occupied =
-          ap (λ (t : Tally). t .occupied) es ∙ g .occupied-is ∙ none-before (count keyPresent keys) ∙ sym (map-count (slotAt rows) isPresent keys)
+          ap (λ (t : Tally). t .occupied) es ∙ g .occupied-is ∙ none-before (countIf keyPresent keys) ∙ sym (map-count (slotAt rows) isPresent keys)
 
-      marked : some .marked ≡ count isMarked (map (slotAt rows) keys)
+      marked : some .marked ≡ countIf isMarked (map (slotAt rows) keys)
       marked =
-          ap (λ (t : Tally). t .marked) es ∙ g .marked-is ∙ none-before (count keyMarked keys) ∙ sym (map-count (slotAt rows) isMarked keys)
+          ap (λ (t : Tally). t .marked) es ∙ g .marked-is ∙ none-before (countIf keyMarked keys) ∙ sym (map-count (slotAt rows) isMarked keys)
 
-      stray : eqb (every .stray) 0 ≡ all zeroIfEmpty (places (stands keys rows rest))
+      stray : eqb (every .stray) 0 ≡ allOf zeroIfEmpty (places (stands keys rows rest))
       stray =
           ap (λ (t : Tally). eqb (t .stray) 0) last ∙ h .no-stray
-          ∙ sym (ap (all zeroIfEmpty) places-are ∙ all-mapped (slotAt rows) zeroIfEmpty zeroIfNone (zero-key rows) ks)
+          ∙ sym (ap (allOf zeroIfEmpty) places-are ∙ all-mapped (slotAt rows) zeroIfEmpty zeroIfNone (zero-key rows) ks)
 
-      high : ltb (every .high) (2 ^ 47) ≡ all pocFits (places (stands keys rows rest))
+      high : ltb (every .high) (2 ^ 47) ≡ allOf pocFits (places (stands keys rows rest))
       high =
           ap (λ (t : Tally). ltb (t .high) (2 ^ 47)) last ∙ h .no-high
-          ∙ sym (ap (all pocFits) places-are ∙ all-mapped (slotAt rows) pocFits lowIfPicture (number-key rows) ks)
+          ∙ sym (ap (allOf pocFits) places-are ∙ all-mapped (slotAt rows) pocFits lowIfPicture (number-key rows) ks)
 
-      below : ltb (every .set) (2 ^ 27) ≡ all below27 (heldBuffers (stands keys rows rest))
-      below = ap (λ (t : Tally). ltb (t .set) (2 ^ 27)) last ∙ h .set-below ∙ sym (ap (all below27) held-are)
+      below : ltb (every .set) (2 ^ 27) ≡ allOf below27 (heldBuffers (stands keys rows rest))
+      below = ap (λ (t : Tally). ltb (t .set) (2 ^ 27)) last ∙ h .set-below ∙ sym (ap (allOf below27) held-are)
 
       differ : eqb (every .set) (every .sum) ≡ allDiffer (heldBuffers (stands keys rows rest))
       differ =

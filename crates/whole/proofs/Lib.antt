@@ -1,2 +1,4 @@
+pub mod Laws
+pub mod Holding
 pub mod TallyLaws
 pub mod KeyRules

@@ -16,9 +16,9 @@ use lib.Pow.{pow-lt, pow-mono, pow-pos, shl-exact, shr-shr}
 use mir.Val.{boolByte}
 use borrow.Author.Tests.{lt-ltb, le-ltb, eqb-true, eqb-false, eq-eqb, ne-eqb}
 use lib.ListN.{length, getD, drop, drop-of-length-le}
-use Rattle.seq.specs.Numbers.{lt-or-ge}
-use Rattle.seq.specs.Walks.{drop-step}
-use Rattle.seq.specs.Lists.{all, any, count, select, allDiffer}
+use Rattle.seq.proofs.Tests.{lt-or-ge}
+use Rattle.seq.proofs.Walks.{drop-step}
+use Rattle.seq.specs.Lists.{allOf, anyOf, countIf, select, allDiffer}
 use Rattle.def.specs.State.{slots}
 use Rattle.whole.specs.declared.Tally.{Tally}
 use Rattle.keys.specs.Keys.{keyPresent, keyMarked, keyRef, keyBuffer}
@@ -93,11 +93,11 @@ unseen-union set b n = ap (λ (x : ℕ). eqb x 0) (bit-of-union set (2 ^ b) n �
     pick true (suc x) = ne-eqb (max (suc x) 1) 0 (λ e. omega (arith, le-max-right (suc x) 1))
     pick false x = ap (λ (y : ℕ). eqb y 0) (max-zero x)
 
-all-unseen-union : (set b : ℕ) (ns : List ℕ) → all (unseen (bitOr set (2 ^ b))) ns ≡ (not (any (eqb b) ns) && all (unseen set) ns)
-unfolding all any
+all-unseen-union : (set b : ℕ) (ns : List ℕ) → allOf (unseen (bitOr set (2 ^ b))) ns ≡ (not (anyOf (eqb b) ns) && allOf (unseen set) ns)
+unfolding allOf anyOf
 all-unseen-union set b [] = refl
 all-unseen-union set b (n ∷ ns) =
-    rw (unseen-union set b n, all-unseen-union set b ns) (swap (eqb b n) (unseen set n) (any (eqb b) ns) (all (unseen set) ns))
+    rw (unseen-union set b n, all-unseen-union set b ns) (swap (eqb b n) (unseen set n) (anyOf (eqb b) ns) (allOf (unseen set) ns))
   where
     swap : (e u a r : Bool) → (not e && u && (not a && r)) ≡ (not (e || a) && (u && r))
     swap true u a r = refl
@@ -127,12 +127,12 @@ abbrev pub below27 : ℕ → Bool
 below27 b = ltb b 27
 
 pub record Gathered (t u : Tally) (ks : List ℕ) : Type 0 where
-  pub no-stray : eqb (u .stray) 0 ≡ (eqb (t .stray) 0 && all zeroIfNone ks)
-  pub no-high : ltb (u .high) (2 ^ 47) ≡ (ltb (t .high) (2 ^ 47) && all lowIfPicture ks)
-  pub occupied-is : u .occupied ≡ t .occupied + count keyPresent ks
-  pub marked-is : u .marked ≡ t .marked + count keyMarked ks
-  pub set-below : ltb (u .set) (2 ^ 27) ≡ (ltb (t .set) (2 ^ 27) && all below27 (heldBy ks))
-  pub differ : eqb (u .set) (u .sum) ≡ (eqb (t .set) (t .sum) && allDiffer (heldBy ks) && all (unseen (t .set)) (heldBy ks))
+  pub no-stray : eqb (u .stray) 0 ≡ (eqb (t .stray) 0 && allOf zeroIfNone ks)
+  pub no-high : ltb (u .high) (2 ^ 47) ≡ (ltb (t .high) (2 ^ 47) && allOf lowIfPicture ks)
+  pub occupied-is : u .occupied ≡ t .occupied + countIf keyPresent ks
+  pub marked-is : u .marked ≡ t .marked + countIf keyMarked ks
+  pub set-below : ltb (u .set) (2 ^ 27) ≡ (ltb (t .set) (2 ^ 27) && allOf below27 (heldBy ks))
+  pub differ : eqb (u .set) (u .sum) ≡ (eqb (t .set) (t .sum) && allDiffer (heldBy ks) && allOf (unseen (t .set)) (heldBy ks))
 
 power-below : (b k : ℕ) → ltb (2 ^ b) (2 ^ k) ≡ ltb b k
 power-below b k = pick (lt-or-ge b k)
@@ -143,9 +143,9 @@ power-below b k = pick (lt-or-ge b k)
 
 module _ (t u : Tally) (k : ℕ) (ks : List ℕ) where
   none : keyPresent k ≡ false → Gathered (strayed t k) u ks → Gathered t u (k ∷ ks)
-  unfolding all count select
+  unfolding allOf countIf select
   none e g = record {
-    no-stray = rw e (g .no-stray ∙ ap (λ (b : Bool). b && all zeroIfNone ks) (or-none (t .stray) k) ∙ and-assoc (eqb (t .stray) 0) (eqb k 0) (all zeroIfNone ks));
+    no-stray = rw e (g .no-stray ∙ ap (λ (b : Bool). b && allOf zeroIfNone ks) (or-none (t .stray) k) ∙ and-assoc (eqb (t .stray) 0) (eqb k 0) (allOf zeroIfNone ks));
     no-high = rw e (g .no-high);
     occupied-is = rw e (g .occupied-is);
     marked-is = rw e (g .marked-is);
@@ -155,7 +155,7 @@ module _ (t u : Tally) (k : ℕ) (ks : List ℕ) where
 
   -- The sets are equal to the sums where the numbers are new.
   differs : t .set ≤ t .sum → Gathered (gathered t k) u ks
-      → eqb (u .set) (u .sum) ≡ (eqb (t .set) (t .sum) && (not (any (eqb (keyBuffer k)) (heldBy ks)) && allDiffer (heldBy ks)) && (unseen (t .set) (keyBuffer k) && all (unseen (t .set)) (heldBy ks)))
+      → eqb (u .set) (u .sum) ≡ (eqb (t .set) (t .sum) && (not (anyOf (eqb (keyBuffer k)) (heldBy ks)) && allDiffer (heldBy ks)) && (unseen (t .set) (keyBuffer k) && allOf (unseen (t .set)) (heldBy ks)))
   differs h g = g .differ ∙ rw (all-unseen-union (t .set) (keyBuffer k) (heldBy ks)) (pick (unseen (t .set) (keyBuffer k)) refl)
     where
       b : ℕ
@@ -178,13 +178,13 @@ module _ (t u : Tally) (k : ℕ) (ks : List ℕ) where
       regroup true false false v = refl
 
       pick : (v : Bool) → unseen (t .set) b ≡ v
-          → (new && allDiffer bs && (not (any (eqb b) bs) && all (unseen (t .set)) bs))
-          ≡ (eqb (t .set) (t .sum) && (not (any (eqb b) bs) && allDiffer bs) && (v && all (unseen (t .set)) bs))
+          → (new && allDiffer bs && (not (anyOf (eqb b) bs) && allOf (unseen (t .set)) bs))
+          ≡ (eqb (t .set) (t .sum) && (not (anyOf (eqb b) bs) && allDiffer bs) && (v && allOf (unseen (t .set)) bs))
       pick true e =
           let z : old b ≡ 0 = eqb-true (old b) 0 e in
           let s : bitOr (t .set) (2 ^ b) ≡ t .set + 2 ^ b = (let w = union-sum (t .set) b in let f : old b * 2 ^ b ≡ 0 = rw z (zero-mul (2 ^ b)) in omega arith) in
-          ap (λ (q : Bool). q && allDiffer bs && (not (any (eqb b) bs) && all (unseen (t .set)) bs)) (ap (λ (n : ℕ). eqb n (t .sum + 2 ^ b)) s ∙ shift (t .set) (t .sum) (2 ^ b))
-          ∙ regroup (eqb (t .set) (t .sum)) (allDiffer bs) (not (any (eqb b) bs)) (all (unseen (t .set)) bs)
+          ap (λ (q : Bool). q && allDiffer bs && (not (anyOf (eqb b) bs) && allOf (unseen (t .set)) bs)) (ap (λ (n : ℕ). eqb n (t .sum + 2 ^ b)) s ∙ shift (t .set) (t .sum) (2 ^ b))
+          ∙ regroup (eqb (t .set) (t .sum)) (allDiffer bs) (not (anyOf (eqb b) bs)) (allOf (unseen (t .set)) bs)
         where
           shift : (m n d : ℕ) → eqb (m + d) (n + d) ≡ eqb m n
           shift m n d = by (eqb m n) refl
@@ -197,7 +197,7 @@ module _ (t u : Tally) (k : ℕ) (ks : List ℕ) where
           let s : bitOr (t .set) (2 ^ b) ≡ t .set = (let w = union-sum (t .set) b in let f : old b * 2 ^ b ≡ 2 ^ b = rw z (one-mul (2 ^ b)) in omega arith) in
           let l : 0 < 2 ^ b = pow-pos b in
           let f : new ≡ false = ne-eqb (bitOr (t .set) (2 ^ b)) (t .sum + 2 ^ b) (λ q. omega arith) in
-          rw f (sym (and-false (eqb (t .set) (t .sum) && (not (any (eqb b) bs) && allDiffer bs))))
+          rw f (sym (and-false (eqb (t .set) (t .sum) && (not (anyOf (eqb b) bs) && allDiffer bs))))
         where
           one : (n : ℕ) → n < 2 → (n ≡ 0 → ⊥) → n ≡ 1
           one zero l f = absurd (f refl)
@@ -205,25 +205,25 @@ module _ (t u : Tally) (k : ℕ) (ks : List ℕ) where
           one (suc (suc n)) l f = absurd (omega arith)
 
   picture : keyPresent k ≡ true → t .set ≤ t .sum → Gathered (gathered t k) u ks → Gathered t u (k ∷ ks)
-  unfolding all any count select allDiffer
+  unfolding allOf anyOf countIf select allDiffer
   picture e h g = record {
     no-stray = rw e (g .no-stray);
-    no-high = rw e (g .no-high ∙ ap (λ (b : Bool). b && all lowIfPicture ks) (or-below 47 (t .high) k) ∙ and-assoc (ltb (t .high) (2 ^ 47)) (ltb k (2 ^ 47)) (all lowIfPicture ks));
+    no-high = rw e (g .no-high ∙ ap (λ (b : Bool). b && allOf lowIfPicture ks) (or-below 47 (t .high) k) ∙ and-assoc (ltb (t .high) (2 ^ 47)) (ltb k (2 ^ 47)) (allOf lowIfPicture ks));
     occupied-is = rw e (let f = g .occupied-is in omega arith);
     marked-is = rw e (g .marked-is ∙ marks (keyRef k) refl);
     set-below =
         rw e (g .set-below
-        ∙ ap (λ (b : Bool). b && all below27 (heldBy ks)) (or-below 27 (t .set) (2 ^ keyBuffer k) ∙ ap (λ (b : Bool). ltb (t .set) (2 ^ 27) && b) (power-below (keyBuffer k) 27))
-        ∙ and-assoc (ltb (t .set) (2 ^ 27)) (below27 (keyBuffer k)) (all below27 (heldBy ks)));
+        ∙ ap (λ (b : Bool). b && allOf below27 (heldBy ks)) (or-below 27 (t .set) (2 ^ keyBuffer k) ∙ ap (λ (b : Bool). ltb (t .set) (2 ^ 27) && b) (power-below (keyBuffer k) 27))
+        ∙ and-assoc (ltb (t .set) (2 ^ 27)) (below27 (keyBuffer k)) (allOf below27 (heldBy ks)));
     differ = rw e (differs h g);
   }
     where
-      marks : (r : Bool) → keyRef k ≡ r → t .marked + k / 2 % 2 + count keyMarked ks ≡ t .marked + cond r (suc (count keyMarked ks)) (count keyMarked ks)
+      marks : (r : Bool) → keyRef k ≡ r → t .marked + k / 2 % 2 + countIf keyMarked ks ≡ t .marked + cond r (suc (countIf keyMarked ks)) (countIf keyMarked ks)
       marks true f = let m = eqb-true (k / 2 % 2) 1 f in omega arith
       marks false f = let m = eqb-false (k / 2 % 2) 1 f in let z : k / 2 % 2 ≡ 0 = omega arith in omega arith
 
 pub gathered-all : (ks : List ℕ) (t : Tally) → t .set ≤ t .sum → Gathered t (tallyAll t ks) ks
-unfolding tallyAll all count select allDiffer
+unfolding tallyAll allOf countIf select allDiffer
 gathered-all [] t h = record {
   no-stray = sym (and-true (eqb (t .stray) 0));
   no-high = sym (and-true (ltb (t .high) (2 ^ 47)));

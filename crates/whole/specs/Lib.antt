@@ -1,4 +1,4 @@
 pub mod Whole
-pub mod Laws
-pub mod Holding
+pub mod Rules
+pub mod Claims
 pub mod Tallies

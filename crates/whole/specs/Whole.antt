@@ -1,10 +1,10 @@
--- Document 01, "Turned-down calls", its last paragraph: which states are whole. A state that is not is what it calls a torn rack.
+-- Section 2 of the specification: which states are whole. A state that is not is what the papers call a torn rack.
 -- Assumes nothing.
 use Prim.Native.Nat.{ℕ}
 use mathlib.Core.Bool.{Bool, not, _&&_, _||_}
 use mathlib.Core.List.{List, [], _∷_, _++_, map}
 use lib.Dec.{leb, ltb, eqb}
-use Rattle.seq.specs.Lists.{all, count, select, allDiffer}
+use Rattle.seq.specs.Lists.{allOf, countIf, select, allDiffer}
 use Rattle.def.specs.declared.Slot.{Slot}
 use Rattle.def.specs.declared.EvcPm.{EvcPm}
 use Rattle.def.specs.State.{slots, listPlaces, highestPoc, isMarked}
@@ -29,7 +29,7 @@ abbrev pub zeroIfEmpty : Slot → Bool
 zeroIfEmpty s =
     s .present
     || (eqb (s .buf) 0 && eqb (s .pic .poc) 0 && not (s .pic .«is_ref») && not (s .pic .«need_for_out») && eqb (s .pic .«temporal_id») 0
-    && all (λ n. eqb n 0) (s .pic .«list_poc»))
+    && allOf (λ n. eqb n 0) (s .pic .«list_poc»))
 
 -- A picture's own number is at most 2,147,483,647; its list numbers may be any.
 abbrev pub pocFits : Slot → Bool
@@ -41,14 +41,14 @@ rules pm =
     leb (pm .«max_pb_size») slots
     ∷ leb (pm .«max_num_ref_pics») listPlaces
     ∷ (leb (pm .«num_refp_0») listPlaces && leb (pm .«num_refp_1») listPlaces)
-    ∷ eqb (pm .«cur_pb_size») (count isPresent (pm .pic))
-    ∷ eqb (pm .«cur_num_ref_pics») (count isMarked (pm .pic))
-    ∷ all zeroIfEmpty (places pm)
-    ∷ all (λ b. ltb b slots) (heldBuffers pm)
+    ∷ eqb (pm .«cur_pb_size») (countIf isPresent (pm .pic))
+    ∷ eqb (pm .«cur_num_ref_pics») (countIf isMarked (pm .pic))
+    ∷ allOf zeroIfEmpty (places pm)
+    ∷ allOf (λ b. ltb b slots) (heldBuffers pm)
     ∷ allDiffer (heldBuffers pm)
-    ∷ all pocFits (places pm)
+    ∷ allOf pocFits (places pm)
     ∷ []
 
 unfoldable pub whole : EvcPm → Bool
-unfolding all
-whole pm = all (λ holds. holds) (rules pm)
+unfolding allOf
+whole pm = allOf (λ holds. holds) (rules pm)

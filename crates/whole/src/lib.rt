@@ -7,15 +7,11 @@ ghost use Rattle.def.specs.State.{slots};
 ghost use Rattle.keys.specs.Keys.{stands};
 ghost use Rattle.whole.specs.Whole.{whole};
 ghost use Rattle.whole.specs.Tallies.{Roomy, noTally, tallied, tallyAll};
-use def::MAX_NUM_REF_PICS;
-use def::MAX_PB_SIZE;
+use def::MAX_PB;
+use def::MAX_REFS;
 use keys::Rest;
 use keys::SLOTS;
 use keys::key::is_present;
-
-const MAX_PB: u8 = MAX_PB_SIZE as u8;
-
-const MAX_REFS: u8 = MAX_NUM_REF_PICS as u8;
 
 // One more than the highest key of a picture whose number is not too high, and than the highest set of buffer numbers, as bits.
 const KEYS_END: u64 = 0x8000_0000_0000;

@@ -1,8 +1,8 @@
 // A call from the bytes of its line, check byte too, not in hex; the answer as bytes.
 use buffer::paste;
+use line::BAD_LINE;
 use line::Reply;
 use running::reply_on;
-use sizing::BAD_LINE;
 use sizing::is_sized;
 ghost use mathlib.Core.Path.{_≡_};
 ghost use lib.ListN.{length};

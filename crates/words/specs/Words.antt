@@ -4,9 +4,9 @@ use Prim.Native.Nat.{ℕ, _+_}
 use mathlib.Core.Bool.{Bool, cond}
 use mathlib.Core.List.{List, _++_}
 use lib.Dec.{eqb}
-use lib.ListN.{getD}
 use Rattle.def.specs.Word.{word, wordBytes, twosComplement, signedOf}
 use Rattle.def.specs.declared.EvcPoc.{EvcPoc}
+pub use Rattle.def.specs.Word.{byteAt}
 
 abbrev pub wordWidth : ℕ
 wordWidth = 4
@@ -25,9 +25,6 @@ pocBytes r =
     ++ (wordBytes (r .«prev_poc_val») ++ wordBytes (twosComplement (r .«prev_doc_offset» .0)))
 
 -- ---- what the bytes at a place stand for
-
-abbrev pub byteAt : List ℕ → ℕ → ℕ
-byteAt bs i = getD bs i 0
 
 abbrev pub flagAt : List ℕ → ℕ → Bool
 flagAt bs i = eqb (byteAt bs i) 1

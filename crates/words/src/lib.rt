@@ -9,7 +9,7 @@ use def::word::twos_complement;
 ghost use mathlib.Core.Path.{_≡_};
 ghost use Prim.Native.Nat.{_+_, _≤_, _<_};
 ghost use lib.ListN.{length};
-ghost use Rattle.seq.specs.Stores.{Stored};
+ghost use Rattle.seq.specs.Lists.{Stored};
 ghost use Rattle.def.specs.Word.{word, wordBytes, twosComplement};
 ghost use Rattle.words.specs.Words.{wordWidth, pocWidth, flagByte, pocBytes, flagAt, wordAt, pocAt};
 

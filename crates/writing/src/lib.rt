@@ -8,7 +8,7 @@ ghost use mathlib.Core.List.{[], _∷_};
 ghost use Prim.Native.Nat.{_+_, _≤_};
 ghost use lib.ListN.{length};
 ghost use lib.Seq.{paste};
-ghost use Rattle.seq.specs.Stores.{Stored};
+ghost use Rattle.seq.specs.Lists.{Stored};
 ghost use Rattle.hex.specs.Hex.{digitPair, digitsOf, sum8, wordBytes, digitTables};
 ghost use Rattle.line.specs.Answers.{answerLine};
 

@@ -1,6 +1,6 @@
 //! The comparison: `oracle [quick] [--seed N] [--calls N] [--standin]`.
 //!
-//! `oracle answers` reads call lines and answers them by the original where it decides and by document 01
+//! `oracle answers` reads call lines and answers them by the original where it decides and by the specification
 //! elsewhere. `oracle child` is what the comparison starts to run the original alone.
 
 use oracle::call::Reply;
@@ -94,8 +94,8 @@ fn compare(options: &Options) -> Result<u8, String> {
     println!("{judged_by_rust} calls were decided by the Rust: answer and image agree with it in every byte;");
     println!("{met_old} met an old reference, where the definition decides, and agree with it; of the {listed} accepted");
     println!("  among them, {less_old} have the lists of the Rust without its age test on the state less its old marks;");
-    println!("{no_counterpart} were accepted on lists that the Rust cannot hold and agree with document 01;");
-    println!("the others were turned down with document 01's number and changed nothing.");
+    println!("{no_counterpart} were accepted on lists that the Rust cannot hold and agree with the specification;");
+    println!("the others were turned down with the specification's number and changed nothing.");
     println!("{calls} calls, 0 differences");
     Ok(0)
 }
@@ -104,7 +104,7 @@ fn all_runs(judge: &mut Judge, options: &Options) -> Result<(), Difference> {
     let mut rng = Rng::new(options.seed);
     let rng = &mut rng;
     let frames = frames::run(judge)?;
-    println!("{frames} frames of document 01 hold");
+    println!("{frames} frames of the specification hold");
     images::run(judge, rng)?;
     let depths = tables::depths(judge)?;
     println!(
@@ -134,9 +134,9 @@ fn phase(judge: &Judge, what: &str) {
     println!("{:>10} calls after {what}", judge.coverage.calls);
 }
 
-/// Holds the original to document 01 where it says that the Rust asserts, panics or never returns.
+/// Holds the original to the specification where it says that the Rust asserts, panics or never returns.
 fn run_children(judge: &Judge) -> Result<(), Difference> {
-    println!("the original alone, in child processes, where document 01 says that it does not answer:");
+    println!("the original alone, in child processes, where the specification says that it does not answer:");
     for kept in &judge.samples.kept {
         let reason = match kept.why {
             Why::Refused(refusal) => format!("refusal {refusal:>2}"),

@@ -1,4 +1,4 @@
-//! The program of document 01 driven by the original: call lines in, answer lines out, made to be timed.
+//! The program of the specification driven by the original: call lines in, answer lines out, made to be timed.
 //! It tests what costs nothing (3, 4, 6, 15, 18) and leaves the rest to the original, which may panic or never
 //! return. `rustline generate N SEED [every]` writes a file of N call lines: mostly accepted, and without calls
 //! on which the original does that; with `every`, refusals of every kind.

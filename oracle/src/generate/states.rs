@@ -112,7 +112,7 @@ fn next_output(rng: &mut Rng, machine: &Machine) -> u32 {
 }
 
 fn fill_lists(rng: &mut Rng, style: &Style, machine: &mut Machine) {
-    // The Rust has no buffer number without a picture; a few such lists go to document 01 alone.
+    // The Rust has no buffer number without a picture; a few such lists go to the specification alone.
     let odd = rng.below(40) == 0;
     let filled = rng.pick(&[0, 128, 256]);
     for lidx in 0..LISTS {

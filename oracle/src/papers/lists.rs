@@ -1,4 +1,4 @@
-//! "Lists": the marked pictures that the two reference lists of a slice hold, old ones passed over (document 02).
+//! "Lists": the marked pictures that the two reference lists of a slice hold, old ones passed over.
 
 use super::whole::whole;
 use super::MAX_POC;
@@ -18,7 +18,7 @@ pub fn lists(machine: &mut Machine, request: &Lists) -> Outcome {
     Ok(Answer::Counts(machine.num_refp[0], machine.num_refp[1]))
 }
 
-/// Whether a walk meets an old picture before its list is full. The Rust never returns from there, so document 02
+/// Whether a walk meets an old picture before its list is full. The Rust never returns from there, so the specification
 /// decides, which passes over the picture.
 pub fn meets_old(machine: &Machine, request: &Lists) -> bool {
     if asks_for_lists(machine, request) != Ok(true) {

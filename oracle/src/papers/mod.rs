@@ -1,4 +1,4 @@
-//! Document 01, as document 02 amends it, in plain Rust, by value and by its own words: which refusal each call gets,
+//! The specification in plain Rust, by value and by its own words: which refusal each call gets,
 //! and what it leaves.
 //! Written from the papers and not from the original, which it is compared with wherever the original decides.
 

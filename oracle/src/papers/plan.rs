@@ -1,4 +1,4 @@
-//! The group planner in plain Rust, by document 02's words: a plan with the record after it, or the refusal.
+//! The group planner in plain Rust, by the specification's words: a plan with the record after it, or the refusal.
 
 use super::{depth, poc, MAX_POC};
 use crate::call::Answer;

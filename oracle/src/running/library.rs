@@ -207,7 +207,7 @@ pub mod functions {
     }
 }
 
-/// Document 01 behind the same functions.
+/// The specification behind the same functions.
 pub struct StandIn;
 
 impl OursRunning for StandIn {

@@ -1,4 +1,4 @@
-//! When the arrays stand for a whole state: document 01's rules once more, on the bits of keys and registers alone.
+//! When the arrays stand for a whole state: the specification's rules once more, on the bits of keys and registers alone.
 
 use super::*;
 

@@ -1,4 +1,4 @@
-//! Document 01's "Frames to check by hand" as document 02 amends them, and its sample of the program, each against
+//! The specification's "Frames to check by hand" as the requests amend them, and its sample of the program, each against
 //! what the documents say.
 
 use crate::call::{Call, Lists, Put};

@@ -1,4 +1,4 @@
-//! The group planner: every accepted plan with the original's `decide_normal_gop`, every refusal with document 02, and the
+//! The group planner: every accepted plan with the original's `decide_normal_gop`, every refusal with the specification, and the
 //! original's panic where it subtracts below zero.
 
 use crate::api::SliceType;
@@ -87,7 +87,7 @@ fn all(ours: Planner, rng: &mut Rng, quick: bool) -> Verdict<Plans> {
     Ok(judge.met)
 }
 
-/// The record after a plan, and what document 02 says of it.
+/// The record after a plan, and what the specification says of it.
 struct Decided {
     after: Record,
     said: Result<Plan, u8>,
@@ -114,14 +114,14 @@ impl Judge {
         let differs = |what: String| Difference(format!("{call:?} on {record:?}: {what}"));
         if (status, bytes, planned) != expected {
             let found = format!("ours gives {status}, record {}, plan {}", hex(&bytes), hex(&planned));
-            return Err(differs(format!("{found}; document 02 says {said:?}, record {after:?}")));
+            return Err(differs(format!("{found}; the specification says {said:?}, record {after:?}")));
         }
         match said {
             Ok(said) => match original(call, record) {
                 Ok(rust) if rust == (said, after) => self.accepted(call, &said),
                 rust => {
                     return Err(differs(format!(
-                        "the Rust gives {rust:?}, document 02 {said:?}, record {after:?}"
+                        "the Rust gives {rust:?}, the specification {said:?}, record {after:?}"
                     )))
                 }
             },

@@ -6,13 +6,13 @@ use native.Mathlib.Omega.{arith}
 use borrow.Author.Needs.{needs}
 use lib.Dec.{eqb}
 use lib.ListN.{length, drop}
-use Rattle.seq.specs.Lists.{all}
-use Rattle.seq.specs.Walks.{all-step, all-end}
+use Rattle.seq.specs.Lists.{allOf}
+use Rattle.seq.proofs.Walks.{all-step, all-end}
 use Rattle.apart.proofs.numbers_are_zero.Statement.{statement}
 use Rattle.apart.proofs.numbers_are_zero.Tie as tie
 
 abbrev Inv-loop : tie.InvT-loop
-Inv-loop list-poc ok₀ i₀ ok i = (i ≤ 21) × (length list-poc ≡ 21) × ((ok && all (λ n. eqb n 0) (drop i list-poc)) ≡ all (λ n. eqb n 0) list-poc)
+Inv-loop list-poc ok₀ i₀ ok i = (i ≤ 21) × (length list-poc ≡ 21) × ((ok && allOf (λ n. eqb n 0) (drop i list-poc)) ≡ allOf (λ n. eqb n 0) list-poc)
 
 abbrev μ-loop : tie.MeasureT-loop
 μ-loop list-poc ok₀ i₀ ok i = 21 - i

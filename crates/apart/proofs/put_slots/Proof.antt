@@ -6,7 +6,7 @@ use native.Mathlib.Omega.{arith}
 use borrow.Author.Needs.{needs}
 use lib.ListN.{length, take, length-set}
 use lib.Seq.{take-all}
-use Rattle.seq.specs.Commute.{fill-turn}
+use Rattle.seq.proofs.Maps.{fill-turn}
 use Rattle.def.specs.State.{slots}
 use Rattle.keys.specs.Keys.{slotAt, Sized}
 use Rattle.apart.specs.Apart.{KeysFit}

@@ -6,7 +6,7 @@ use mathlib.Core.Path.{_≡_, refl, sym, _∙_}
 use lib.ListN.{length, drop, getD}
 use borrow.Author.Tests.{eq-eqb, ne-eqb}
 use Rattle.seq.specs.Lists.{lowest}
-use Rattle.seq.specs.Lowest.{lowest-hit, lowest-miss, lowest-end}
+use Rattle.seq.proofs.Walks.{lowest-hit, lowest-miss, lowest-end}
 use Rattle.buffer.specs.Buffer.{isNewline}
 use Rattle.buffer.proofs.line_end.Statement.{statement}
 use Rattle.buffer.proofs.line_end.Tie as tie

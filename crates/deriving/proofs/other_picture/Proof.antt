@@ -17,7 +17,7 @@ use Rattle.def.specs.declared.EvcPoc.{EvcPoc}
 use Rattle.poc.specs.PictureNumber.{maxPoc, tooHigh, offsetOf, offsetFrom, number, nextOffset, nextPrevious}
 use Rattle.poc.specs.Domain.{Checked, OfLayer, signedOffset}
 use Rattle.poc.proofs.Offset.{offsetFrom-lands}
-use Rattle.poc.specs.Number.{accepted}
+use Rattle.poc.specs.Number.{derivedAs}
 use Rattle.poc.proofs.Settled.{settled-high, settled-fits, sum-is, sum-low, sum-mag}
 use Rattle.poc.proofs.Words.{shifted, power-le, as-signed}
 use Rattle.offsets.proofs.Formula.{stays-below}
@@ -181,8 +181,8 @@ returns-2 c =
     let fits = sum (c .before) .fits in
     let is-number = ap (λ (z : ℤ). toZ w32 (ofZ w32 z)) (sum (c .before) .is) ∙ toZ-ofZ w32 _ (number-fits (s .pre .1) (s .pre .0) fits) in
     c .accepted .ensures
-    ∙ ap₂ (λ (z : ℤ) (prev : ℕ). accepted (record { 0 = z }) prev (c .before .before .doc-offset-from .result)) is-number (previous-is (c .before .before .before .before))
-    ∙ ap (λ (w : ℤ). accepted (record { 0 = number (nextPrevious L r) L t (found L t r) }) (nextPrevious L r) (record { 0 = w })) (found-is (c .before .before))
+    ∙ ap₂ (λ (z : ℤ) (prev : ℕ). derivedAs (record { 0 = z }) prev (c .before .before .doc-offset-from .result)) is-number (previous-is (c .before .before .before .before))
+    ∙ ap (λ (w : ℤ). derivedAs (record { 0 = number (nextPrevious L r) L t (found L t r) }) (nextPrevious L r) (record { 0 = w })) (found-is (c .before .before))
     ∙ sym (settled-fits r (number (nextPrevious L r) L t (found L t r)) (nextPrevious L r) (found L t r) (number-low (s .pre .1) (s .pre .0) fits) fits)
 
 pub other-picture-spec : {M : Type 1} → statement M

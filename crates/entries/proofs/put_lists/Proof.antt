@@ -4,7 +4,7 @@ use mathlib.Core.List.{[], _∷_}
 use Prim.Native.Nat.{_≤_, _-_}
 use native.Mathlib.Omega.{arith}
 use lib.ListN.{length, take, length-set}
-use Rattle.seq.specs.Table.{entries, entriesFrom}
+use Rattle.seq.specs.Lists.{entries, entriesFrom}
 use Rattle.def.specs.declared.{EvcRefP.EvcRefP}
 use Rattle.keys.specs.Keys.{rowsLength, listsIn}
 use Rattle.entries.specs.Entries.{places}

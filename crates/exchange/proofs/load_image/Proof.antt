@@ -6,7 +6,7 @@ use Rattle.keys.specs.Keys.{Sized}
 use Rattle.registers.specs.Registers.{registersLength}
 use Rattle.whole.specs.Whole.{whole}
 use Rattle.machine.specs.declared.Machine.{Machine}
-use Rattle.image.specs.BytesKept.{image-long}
+use Rattle.image.proofs.BytesKept.{image-long}
 use Rattle.exchange.proofs.Exchanging.{arrays-sized, registers-long, load-not-whole, load-done}
 use borrow.Author.Needs.{needs}
 use Rattle.exchange.proofs.load_image.Statement.{statement}

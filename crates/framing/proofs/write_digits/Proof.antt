@@ -5,7 +5,8 @@ use native.Mathlib.Omega.{arith}
 use mathlib.Core.Path.{_≡_, refl, ap}
 use mathlib.Core.List.{List, [], _∷_, flatMap}
 use lib.ListN.{length, getD, set, length-set}
-use Rattle.seq.specs.Stores.{Stored, Storing, stored-one, stored-then, storing-none, storing-turn, storing-end}
+use Rattle.seq.specs.Lists.{Stored}
+use Rattle.seq.proofs.Stores.{Storing, stored-one, stored-then, storing-none, storing-turn, storing-end}
 use Rattle.hex.specs.Hex.{digitOf, digitsOf}
 use Rattle.framing.proofs.write_digits.Statement.{statement}
 use Rattle.framing.proofs.write_digits.Tie as tie

@@ -8,9 +8,8 @@ use native.Mathlib.Omega.{arith}
 use borrow.Author.Needs.{needs}
 use borrow.Author.Tests.{le-leb, lt-leb}
 use lib.ListN.{length, drop, getD}
-use Rattle.seq.specs.Lists.{any, lowest}
-use Rattle.seq.specs.Lowest.{lowest-hit, lowest-miss, lowest-end}
-use Rattle.seq.specs.Walks.{any-step, any-end}
+use Rattle.seq.specs.Lists.{anyOf, lowest}
+use Rattle.seq.proofs.Walks.{lowest-hit, lowest-miss, lowest-end, any-step, any-end}
 use Rattle.keys.specs.Keys.{keyWanted, keyNumber}
 use Rattle.picman.specs.OnKeys.{keyDue}
 use Rattle.handing.proofs.DuePlace.{at-due, at-end}
@@ -20,7 +19,7 @@ use Rattle.handing.proofs.due_place.Tie as tie
 abbrev Inv-loop : tie.InvT-loop
 Inv-loop keys poc-next-output next wanted₀ i₀ wanted i =
     (i ≤ 27) × (length keys ≡ 27) × (i + lowest (keyDue poc-next-output) (drop i keys) ≡ lowest (keyDue poc-next-output) keys)
-    × ((wanted || any keyWanted (drop i keys)) ≡ any keyWanted keys)
+    × ((wanted || anyOf keyWanted (drop i keys)) ≡ anyOf keyWanted keys)
 
 abbrev μ-loop : tie.MeasureT-loop
 μ-loop keys poc-next-output next wanted₀ i₀ wanted i = 27 - i
@@ -79,7 +78,7 @@ loop-again c =
       l .inv .1,
       lowest-miss 0 (keyDue (a .poc-next-output)) (a .keys .now) (l .i) (omega arith) (not-yet (a .poc-next-output) (getD (a .keys .now) (l .i) 0) (c .if2 .left))
           ∙ l .inv .2,
-      sym (any-hit (l .wanted) (any keyWanted (drop (l .i + 1) (a .keys .now))))
+      sym (any-hit (l .wanted) (anyOf keyWanted (drop (l .i + 1) (a .keys .now))))
           ∙ rw (sym (c .before .if1 .taken) ∙ c .before .before .is-wanted .ensures) (any-step 0 keyWanted (a .keys .now) (l .i) (l .wanted) (omega arith))
           ∙ l .inv .3,
     )

@@ -4,7 +4,7 @@ use mathlib.Core.Path.{_≡_, sym, ap, _∙_}
 use Prim.Native.Nat.{ℕ, _<_, _≤_}
 use borrow.Author.Needs.{needs}
 use lib.ListN.{length, length-set}
-use Rattle.seq.specs.Lists.{any, lowest}
+use Rattle.seq.specs.Lists.{anyOf, lowest}
 use Rattle.keys.specs.Keys.{keyWanted}
 use Rattle.picman.specs.OnKeys.{keyDue, duePlace}
 use Rattle.handing.proofs.DuePlace.{place-due, place-waits, place-none}
@@ -31,10 +31,10 @@ module _ (c : tie.After-due-place) where
       let p = place-due (start .args .rest .«poc_next_output») (start .args .keys .now) (rw found at h) in
       (found ∙ p .0, p .1)
 
-  waits : c .due-place .result ≡ 27 → (27 ≤ first) × (any keyWanted (start .args .keys .now) ≡ true)
+  waits : c .due-place .result ≡ 27 → (27 ≤ first) × (anyOf keyWanted (start .args .keys .now) ≡ true)
   waits e = place-waits (start .args .rest .«poc_next_output») (start .args .keys .now) (sym found ∙ e)
 
-  none : 27 ≤ c .due-place .result → (c .due-place .result ≡ 27 → ⊥) → (27 ≤ first) × (any keyWanted (start .args .keys .now) ≡ false)
+  none : 27 ≤ c .due-place .result → (c .due-place .result ≡ 27 → ⊥) → (27 ≤ first) × (anyOf keyWanted (start .args .keys .now) ≡ false)
   none h n = place-none (start .args .rest .«poc_next_output») (start .args .keys .now) (rw found at h) (λ e. n (found ∙ e))
 
 due-place-requires : tie.Need-due-place-requires

@@ -2,7 +2,7 @@
 -- The measure is what is left of the entries. Assumes nothing.
 use Prim.Native.Nat.{_+_, _*_, _-_}
 use borrow.Author.Needs.{needs}
-use Rattle.seq.specs.Fills.{Tested, test-none, test-turn, test-end}
+use Rattle.seq.proofs.Rows.{Tested, test-none, test-turn, test-end}
 use Rattle.def.specs.State.{listPlaces}
 use Rattle.image.specs.Image.{refpWidth, refpPlace, isFlag}
 use Rattle.image.proofs.refps_flagged.Statement.{statement}

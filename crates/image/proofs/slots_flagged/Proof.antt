@@ -4,7 +4,7 @@ use mathlib.Core.Path.{sym, ap, _∙_}
 use Prim.Native.Nat.{_+_, _*_, _-_}
 use native.Mathlib.Nat.{zero-add}
 use borrow.Author.Needs.{needs}
-use Rattle.seq.specs.Fills.{Tested, test-none, test-turn, test-end}
+use Rattle.seq.proofs.Rows.{Tested, test-none, test-turn, test-end}
 use Rattle.def.specs.State.{slots}
 use Rattle.image.specs.Image.{slotWidth, slotFlags}
 use Rattle.image.proofs.slots_flagged.Statement.{statement}

@@ -4,7 +4,7 @@ use mathlib.Core.Path.{ap, subst, _∙_}
 use Rattle.machine.specs.declared.Machine.{Machine}
 use Rattle.machine.specs.declared.Stepped.{Stepped}
 use Rattle.machine.specs.Step.{step}
-use Rattle.exchange.specs.Lent.{Holds}
+use Rattle.exchange.specs.Lent.{ImageHolds}
 use borrow.Author.Needs.{needs}
 use Rattle.images.proofs.answer_good.Statement.{statement}
 use Rattle.images.proofs.answer_good.Tie as tie
@@ -34,7 +34,7 @@ returns c =
     let done = machine-written .before .before .before .before in
     let e = done .step .ensures ∙ ap (λ (m : Machine). step m (done .before .before .before .before .before .args .call)) (done .before .read-machine .ensures) in (
       rw (answer-written .write-answer .ensures, machine-written .write-machine .ensures .0, e),
-      subst (λ (s : Stepped). Holds (machine-written .write-machine .last .0) (s .machine)) e (machine-written .write-machine .ensures .1),
+      subst (λ (s : Stepped). ImageHolds (machine-written .write-machine .last .0) (s .machine)) e (machine-written .write-machine .ensures .1),
     )
 
 pub answer-good-spec : {M : Type 1} → statement M

@@ -13,9 +13,9 @@ use Rattle.image.specs.Image.{Bytes, isImage}
 use Rattle.machine.specs.declared.Machine.{Machine}
 use Rattle.machine.specs.Step.{stepLine}
 use Rattle.wire.specs.Wire.{answerLength}
-use Rattle.exchange.specs.Lent.{machineOf, Holds}
+use Rattle.exchange.specs.Lent.{machineOf, ImageHolds}
 use Rattle.images.specs.Called.{answered, answerTo, called, Answers}
-use Rattle.image.specs.BytesKept.{image-long}
+use Rattle.image.proofs.BytesKept.{image-long}
 use Rattle.images.proofs.TurnedDown.{answered-kept, call-kept}
 use borrow.Author.Needs.{needs}
 use Rattle.images.proofs.call_image.Statement.{statement}
@@ -28,11 +28,11 @@ unfolding called
 called-line image call answer l e f g = rw (e, eq-eqb (length answer) answerLength f, g)
 
 -- what the image holds, by what the call is
-holds-line : (m : Machine) (call : List ℕ) {bs : List ℕ} {l : Line} → callFrom call ≡ l → Holds bs (stepLine m l .machine) → Holds bs (stepLine m (callFrom call) .machine)
-holds-line m call {bs} e h = subst (λ (k : Line). Holds bs (stepLine m k .machine)) (sym e) h
+holds-line : (m : Machine) (call : List ℕ) {bs : List ℕ} {l : Line} → callFrom call ≡ l → ImageHolds bs (stepLine m l .machine) → ImageHolds bs (stepLine m (callFrom call) .machine)
+holds-line m call {bs} e h = subst (λ (k : Line). ImageHolds bs (stepLine m k .machine)) (sym e) h
 
 answers : (r : ℕ) (image call answer image′ answer′ : List ℕ) → Bytes image → answered r image′ answer′ ≡ called image call answer
-    → (isImage image ≡ true → length answer ≡ answerLength → Holds image′ (stepLine (machineOf image) (callFrom call) .machine))
+    → (isImage image ≡ true → length answer ≡ answerLength → ImageHolds image′ (stepLine (machineOf image) (callFrom call) .machine))
     → Answers r image call answer image′ answer′
 answers r image call answer image′ answer′ bytes e h = record { given = e; holds = h; kept = answered-kept e (call-kept image bytes call answer) }
 

@@ -8,11 +8,11 @@ use native.Mathlib.Omega.{arith}
 use lib.Dec.{eqb}
 use lib.ListN.{length}
 use borrow.Author.Tests.{not-true, not-false, eqb-true}
-use Rattle.seq.specs.All.{and-left}
+use Rattle.seq.proofs.Tests.{and-left}
 use Rattle.image.specs.Image.{refpWidth, Bytes, isFlag, isImage}
-use Rattle.exchange.specs.Lent.{Left, left, machineOf, Holds}
+use Rattle.exchange.specs.Lent.{Left, left, machineOf, ImageHolds}
 use Rattle.images.specs.Copied.{isEntry, copyInto, withLists, relisted, copied, Copies}
-use Rattle.image.specs.BytesKept.{image-long}
+use Rattle.image.proofs.BytesKept.{image-long}
 use Rattle.images.proofs.TurnedDown.{left-kept, copy-kept}
 use borrow.Author.Needs.{needs}
 use Rattle.images.proofs.copy_image.Statement.{statement}
@@ -28,7 +28,7 @@ entry-long : (bs : List ℕ) → isEntry bs ≡ true → length bs ≡ refpWidth
 entry-long bs e = eqb-true (length bs) refpWidth (and-left (eqb (length bs) refpWidth) (isFlag bs 0) e)
 
 copies : (r : ℕ) (image : List ℕ) (cnt lidx : ℕ) (entry image′ : List ℕ) → Bytes image → left r image′ ≡ copied image cnt lidx entry
-    → (isImage image ≡ true → isEntry entry ≡ true → Holds image′ (withLists (machineOf image) (copyInto image cnt lidx entry .refp)))
+    → (isImage image ≡ true → isEntry entry ≡ true → ImageHolds image′ (withLists (machineOf image) (copyInto image cnt lidx entry .refp)))
     → Copies r image cnt lidx entry image′
 copies r image cnt lidx entry image′ bytes e h = record { given = e; holds = h; kept = left-kept e (copy-kept image bytes cnt lidx entry) }
 

@@ -7,14 +7,14 @@ use lib.ListN.{length}
 use borrow.Author.Tests.{eq-eqb, ne-eqb}
 use Rattle.image.specs.Image.{imageLength}
 use Rattle.images.specs.Called.{renewed, Renews}
-use Rattle.exchange.specs.Lent.{left, Holds}
+use Rattle.exchange.specs.Lent.{left, ImageHolds}
 use Rattle.machine.specs.Step.{newMachine}
 use Rattle.images.proofs.TurnedDown.{left-kept, new-kept}
 use borrow.Author.Needs.{needs}
 use Rattle.images.proofs.renew_image.Statement.{statement}
 use Rattle.images.proofs.renew_image.Tie as tie
 
-renews : (r : ℕ) (image image′ : List ℕ) → left r image′ ≡ renewed image → (length image ≡ imageLength → Holds image′ newMachine) → Renews r image image′
+renews : (r : ℕ) (image image′ : List ℕ) → left r image′ ≡ renewed image → (length image ≡ imageLength → ImageHolds image′ newMachine) → Renews r image image′
 renews r image image′ e h = record { given = e; holds = h; kept = left-kept e (new-kept image) }
 
 returns : tie.Need-returns
@@ -38,7 +38,7 @@ returns-2 c =
     let long = made .before in
     renews _ _ _
     (rw (eq-eqb (length (long .before .before .args .image .now)) imageLength (long .if1 .left), written .write-machine .ensures .0, made .new-machine .ensures))
-    (λ _. subst (Holds (written .write-machine .last .0)) (made .new-machine .ensures) (written .write-machine .ensures .1))
+    (λ _. subst (ImageHolds (written .write-machine .last .0)) (made .new-machine .ensures) (written .write-machine .ensures .1))
 
 pub renew-image-spec : {M : Type 1} → statement M
 renew-image-spec =

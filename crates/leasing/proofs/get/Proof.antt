@@ -6,7 +6,7 @@ use native.Mathlib.Omega.{arith}
 use borrow.Author.Needs.{needs}
 use lib.ListN.{length}
 use Rattle.seq.specs.Lists.{lowest}
-use Rattle.seq.specs.Changes.{remove-length}
+use Rattle.seq.proofs.Orders.{remove-length}
 use Rattle.keys.specs.Keys.{keyIdle, keyPresent}
 use Rattle.picman.proofs.GetOnKeys.{on-leased, reuse-size, reuse-number, on-idle, on-full, free-below, on-new}
 use Rattle.leasing.proofs.get.Statement.{statement}

@@ -3,7 +3,7 @@ use mathlib.Core.Path.{ap, _∙_}
 use native.Mathlib.Omega.{arith}
 use borrow.Author.Needs.{needs}
 use lib.ListN.{length}
-use Rattle.seq.specs.Changes.{remove-length}
+use Rattle.seq.proofs.Orders.{remove-length}
 use Rattle.leasing.proofs.reuse_pic.Statement.{statement}
 use Rattle.leasing.proofs.reuse_pic.Tie as tie
 

@@ -3,7 +3,7 @@ use mathlib.Core.Path.{_≡_, sym, ap, _∙_}
 use native.Mathlib.Omega.{arith}
 use borrow.Author.Needs.{needs}
 use lib.ListN.{length}
-use Rattle.seq.specs.Lists.{count}
+use Rattle.seq.specs.Lists.{countIf}
 use Rattle.keys.specs.Keys.{keyMarked}
 use Rattle.marking.specs.OnKeys.{keyOutdated, Picks, keySweep}
 use Rattle.marking.proofs.OnKeys.{sweep-long, few-marked, many-marked}
@@ -17,8 +17,8 @@ long : (c : tie.After-sweep) → length (c .sweep .last .1 .1 .0) ≡ 27
 long c = let s = c .before .before .before .before .before .before .before in ap length (c .sweep .ensures) ∙ sweep-long (s .args .ref-pic-gap-length) (s .args .keys .now) _ (s .pre .0) (picked c)
 
 counted : (c : tie.After-count-marked)
-    → c .count-marked .result ≡ count keyMarked (keySweep (c .before .before .before .before .before .before .before .pick-outdated .last .1 .1 .0) (c .before .before .before .before .before .before .before .before .before .before .before .args .keys .now))
-counted c = c .count-marked .ensures ∙ ap (count keyMarked) (c .before .before .before .before .sweep .ensures)
+    → c .count-marked .result ≡ countIf keyMarked (keySweep (c .before .before .before .before .before .before .before .pick-outdated .last .1 .1 .0) (c .before .before .before .before .before .before .before .before .before .before .before .args .keys .now))
+counted c = c .count-marked .ensures ∙ ap (countIf keyMarked) (c .before .before .before .before .sweep .ensures)
 
 pick-outdated-requires : tie.Need-pick-outdated-requires
 pick-outdated-requires c κs = search needs

@@ -7,7 +7,7 @@ use borrow.Author.Needs.{needs}
 use borrow.Author.Tests.{ltb-true}
 use lib.Dec.{ltb}
 use lib.ListN.{length, length-set, length-map}
-use Rattle.seq.specs.All.{and-left, and-right}
+use Rattle.seq.proofs.Tests.{and-left, and-right}
 use Rattle.marking.specs.Marking.{unmarkFirst, noteFirst}
 use Rattle.marking.proofs.Steps.{Noted, noted-start, noted-end}
 use Rattle.keys.specs.Keys.{slotAt}

@@ -8,7 +8,7 @@ use mathlib.Core.List.{List}
 use lib.ListN.{length}
 use borrow.Author.Tests.{eqb-true}
 use lib.Dec.{eqb}
-use Rattle.seq.specs.All.{and-right}
+use Rattle.seq.proofs.Tests.{and-right}
 use Rattle.line.specs.declared.Line.the-variants.{Good}
 use Rattle.hex.specs.Frame.{byteAt}
 use Rattle.line.specs.Calls.{isCall, callIn}

@@ -6,7 +6,7 @@ use mathlib.Core.Bool.{true}
 use lib.Dec.{ltb, eqb}
 use lib.ListN.{length}
 use borrow.Author.Tests.{ltb-true, not-true, not-false}
-use Rattle.seq.specs.All.{and-left}
+use Rattle.seq.proofs.Tests.{and-left}
 use Rattle.hex.specs.Hex.{sum8}
 use Rattle.hex.specs.Frame.{isChecked, bodyOf}
 use Rattle.hex.proofs.HexLaws.{body-length}

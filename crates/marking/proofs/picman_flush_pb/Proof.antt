@@ -7,7 +7,7 @@ use borrow.Author.Needs.{needs}
 use lib.ListN.{length, take, length-set}
 use lib.Seq.{take-all}
 use Rattle.keys.specs.Keys.{keyUnmarked}
-use Rattle.seq.specs.Commute.{fill-turn}
+use Rattle.seq.proofs.Maps.{fill-turn}
 use Rattle.marking.proofs.picman_flush_pb.Statement.{statement}
 use Rattle.marking.proofs.picman_flush_pb.Tie as tie
 

@@ -5,7 +5,7 @@ use mathlib.Core.Path.{_≡_}
 use Prim.Native.Nat.{ℕ, _+_, _*_, _%_, _^_}
 use native.Mathlib.Omega.{arith}
 use lib.Ieee.{size, span, climb}
-use Rattle.seq.specs.Table.{entries, entriesFrom}
+use Rattle.seq.specs.Lists.{entries, entriesFrom}
 use Rattle.def.specs.Binary.{floorLog2}
 use Rattle.poc.specs.Standard.{expectedTemporalId}
 use Rattle.poc.specs.Domain.{InTable}

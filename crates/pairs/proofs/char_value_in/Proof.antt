@@ -6,7 +6,7 @@ use mathlib.Core.List.{List}
 use Prim.Native.Nat.{ℕ}
 use lib.ListN.{getD}
 use borrow.Author.Tests.{lt-ltb}
-use Rattle.seq.specs.Table.{entry}
+use Rattle.seq.proofs.Rows.{entry}
 use Rattle.hex.specs.Hex.{tableEntry, charValue, digitTables}
 use borrow.Author.Needs.{needs}
 use Rattle.pairs.proofs.char_value_in.Statement.{statement}

@@ -8,7 +8,7 @@ use mathlib.Core.List.{List, [], _++_, append-nil}
 use borrow.Author.Needs.{needs}
 use borrow.Author.Tests.{not-true, not-false}
 use lib.ListN.{length, getD, take, drop, length-set, drop-of-length-le}
-use Rattle.seq.specs.Lists.{all}
+use Rattle.seq.specs.Lists.{allOf}
 use Rattle.hex.specs.Hex.{isDigit, bytesOf}
 use Rattle.hex.proofs.HexLaws.{both}
 use Rattle.hex.proofs.Pairs.{not-hex, pair-hex, pair-bytes}
@@ -17,7 +17,7 @@ use Rattle.pairs.proofs.decode.Tie as tie
 
 abbrev Inv-loop : tie.InvT-loop
 Inv-loop digits bytes₀ n i₀ bytes i =
-    (i ≤ n) × (length bytes ≡ length bytes₀) × (all isDigit (drop (2 * i) digits) ≡ all isDigit digits) × (take i bytes ++ bytesOf (drop (2 * i) digits) ≡ bytesOf digits)
+    (i ≤ n) × (length bytes ≡ length bytes₀) × (allOf isDigit (drop (2 * i) digits) ≡ allOf isDigit digits) × (take i bytes ++ bytesOf (drop (2 * i) digits) ≡ bytesOf digits)
 
 abbrev μ-loop : tie.MeasureT-loop
 μ-loop digits bytes₀ n i₀ bytes i = n - i
@@ -89,7 +89,7 @@ loop-again c =
     let h : 2 * l .i + 1 < length digits = omega arith in
     let k : l .i < length (l .bytes) = omega arith in
     let two = two-digits (c .before) in
-    let hex : all isDigit (drop (2 * (l .i + 1)) digits) ≡ all isDigit (drop (2 * l .i) digits) =
+    let hex : allOf isDigit (drop (2 * (l .i + 1)) digits) ≡ allOf isDigit (drop (2 * l .i) digits) =
     sym (pair-hex digits (l .i) h ∙ simp (two .0, two .1)) in
     (omega arith, length-set (l .bytes) (l .i) _ ∙ l .inv .1, hex ∙ l .inv .2, pair-bytes digits (l .bytes) (l .i) _ h k (c .pair-value .ensures) ∙ l .inv .3)
 
@@ -97,13 +97,13 @@ same-length-2 : tie.Need-same-length-2 Inv-loop μ-loop
 same-length-2 c = c .before .loop .inv .1
 
 returns-2 : tie.Need-returns-2 Inv-loop μ-loop
-unfolding all bytesOf
+unfolding allOf bytesOf
 returns-2 c =
     let l = c .before .loop in
     let digits = c .before .before .before .before .args .digits .now in
     let i : l .i ≡ length digits / 2 = omega arith in
     let none : drop (2 * l .i) digits ≡ [] = drop-of-length-le digits {i = 2 * l .i} (omega arith) in
-    (sym (ap (all isDigit) none) ∙ l .inv .2, λ f. rw (← i) (sym (append-nil (take (l .i) (l .bytes))) ∙ sym (ap (λ (t : List ℕ). take (l .i) (l .bytes) ++ bytesOf t) none) ∙ l .inv .3))
+    (sym (ap (allOf isDigit) none) ∙ l .inv .2, λ f. rw (← i) (sym (append-nil (take (l .i) (l .bytes))) ∙ sym (ap (λ (t : List ℕ). take (l .i) (l .bytes) ++ bytesOf t) none) ∙ l .inv .3))
 
 pub decode-spec : {M : Type 1} → statement M
 decode-spec =

@@ -1,6 +1,6 @@
 -- `planning::write_both` meets its contract: the callees' contracts, last call first.
 -- Assumes nothing.
-use Rattle.seq.specs.Stores.{stored-whole}
+use Rattle.seq.proofs.Stores.{stored-whole}
 use borrow.Author.Needs.{needs}
 use Rattle.planning.proofs.write_both.Statement.{statement}
 use Rattle.planning.proofs.write_both.Tie as tie

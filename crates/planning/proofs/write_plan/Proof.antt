@@ -5,7 +5,8 @@ use native.Mathlib.Omega.{arith}
 use mir.Syntax.{w32}
 use mir.Val.{toZ, ofZ}
 use lib.ListN.{length-set}
-use Rattle.seq.specs.Stores.{Stored, stored-one, stored-then, stored-whole, stored-length}
+use Rattle.seq.specs.Lists.{Stored}
+use Rattle.seq.proofs.Stores.{stored-one, stored-then, stored-whole, stored-length}
 use Rattle.words.specs.Words.{flagByte}
 use Rattle.planning.specs.Planned.{sliceByte, planWidth, planBytes}
 use borrow.Author.Needs.{needs}

@@ -5,7 +5,7 @@ use mathlib.Core.Path.{_≡_, sym, ap, _∙_}
 use lib.ListN.{take, drop, length-drop}
 use borrow.Author.Tests.{lt-ltb, le-ltb}
 use Rattle.seq.specs.Lists.{lowest}
-use Rattle.seq.specs.Lowest.{lowest-le}
+use Rattle.seq.proofs.Walks.{lowest-le}
 use Rattle.hex.specs.Frame.{fromLine}
 use Rattle.buffer.specs.Buffer.{isNewline}
 use Rattle.line.specs.Answers.{answerKind}

@@ -5,7 +5,7 @@ use native.Mathlib.Omega.{arith}
 use lib.ListN.{length, take, length-set}
 use lib.Seq.{take-all}
 use borrow.Author.Needs.{needs}
-use Rattle.seq.specs.Commute.{copy-turn}
+use Rattle.seq.proofs.Maps.{copy-turn}
 use Rattle.registers.specs.Registers.{registersLength, registersOf}
 use Rattle.registers.proofs.Kept.{rest-kept, poc-kept}
 use Rattle.registers.proofs.store.Statement.{statement}

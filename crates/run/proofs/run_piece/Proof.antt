@@ -19,7 +19,7 @@ use Rattle.machine.specs.Running.{machineIn, Runs, Makes}
 use Rattle.machine.proofs.Running.{runs-on}
 use Rattle.run.specs.declared.NextLine.{NextLine}
 use Rattle.run.specs.Run.{Fed}
-use Rattle.run.specs.Partial.{kept, heldLine, Room}
+use Rattle.run.specs.Partial.{keptLength, heldLine, Room}
 use Rattle.run.specs.Session.{NextIs}
 use Rattle.run.proofs.Feeding.{runnerOf}
 use Rattle.run.proofs.Turns.{Going, begin, fits, turned, stopped-there, all-written, written-length}
@@ -149,8 +149,8 @@ returns c =
       machine = sym (ap (λ (x : Fed). x .runner .machine) (stopped-there g none));
       line =
           c .extended .ensures .0
-          ∙ ap (λ (x : List ℕ). take kept (heldLine (l .partial) ++ x)) (take-all (length piece - l .at) (drop (l .at) piece) (omega (arith, length-drop (l .at) piece)))
-          ∙ sym (ap (λ (x : Fed). take kept (x .runner .line)) (stopped-there g none));
+          ∙ ap (λ (x : List ℕ). take keptLength (heldLine (l .partial) ++ x)) (take-all (length piece - l .at) (drop (l .at) piece) (omega (arith, length-drop (l .at) piece)))
+          ∙ sym (ap (λ (x : Fed). take keptLength (x .runner .line)) (stopped-there g none));
       stays-sound = record { runs = l .inv .1; room = c .extended .ensures .1 };
     }
 

@@ -5,13 +5,13 @@ use Prim.Native.Nat.{_≤_, _+_, _-_}
 use native.Mathlib.Omega.{arith}
 use borrow.Author.Needs.{needs}
 use lib.ListN.{length, drop}
-use Rattle.seq.specs.Lists.{count}
-use Rattle.seq.specs.Walks.{counted, count-end}
+use Rattle.seq.specs.Lists.{countIf}
+use Rattle.seq.proofs.Walks.{counted, count-end}
 use Rattle.sweeping.proofs.count_kept.Statement.{statement}
 use Rattle.sweeping.proofs.count_kept.Tie as tie
 
 abbrev Inv-loop : tie.InvT-loop
-Inv-loop picks n₀ i₀ n i = (i ≤ 27) × (length picks ≡ 27) × (n + count not (drop i picks) ≡ count not picks)
+Inv-loop picks n₀ i₀ n i = (i ≤ 27) × (length picks ≡ 27) × (n + countIf not (drop i picks) ≡ countIf not picks)
 
 abbrev μ-loop : tie.MeasureT-loop
 μ-loop picks n₀ i₀ n i = 27 - i

@@ -4,7 +4,7 @@ use Prim.Native.Nat.{ℕ, _≤_, _-_, _+_, _<_}
 use native.Mathlib.Omega.{arith}
 use lib.ListN.{length, length-set}
 use borrow.Author.Needs.{needs}
-use Rattle.seq.specs.Partition.{Filled, both-lengths, filled-keep, filled-pick, filled-end, keep-room, pick-room}
+use Rattle.seq.proofs.Partition.{Parted, both-lengths, parted-keep, parted-pick, parted-end, keep-room, pick-room}
 use Rattle.keys.specs.Keys.{keyUnmarked}
 use Rattle.marking.specs.OnKeys.{flagged}
 use Rattle.marking.proofs.OnKeys.{kept-count}
@@ -13,7 +13,7 @@ use Rattle.sweeping.proofs.sweep.Tie as tie
 
 abbrev Inv-loop : tie.InvT-loop
 Inv-loop keys picks next₀ first kept₀ picked₀ i₀ next kept picked i =
-    (i ≤ 27) × (length keys ≡ 27) × (length picks ≡ 27) × (length next ≡ 27) × Filled (flagged {A = ℕ} picks) keyUnmarked keys next first kept picked i
+    (i ≤ 27) × (length keys ≡ 27) × (length picks ≡ 27) × (length next ≡ 27) × Parted (flagged {A = ℕ} picks) keyUnmarked keys next first kept picked i
 
 abbrev μ-loop : tie.MeasureT-loop
 μ-loop keys picks next₀ first kept₀ picked₀ i₀ next kept picked i = 27 - i
@@ -88,7 +88,7 @@ loop-again : tie.Need-loop-again Inv-loop μ-loop
 loop-again c =
     let a = c .before .before .before .before .before .before .before .before .before .args in
     let l = c .before .before .before .before .before .loop in
-    let f = filled-pick (flagged (a .picks .now)) keyUnmarked 0 (a .keys .now) (l .next) _ (l .kept) (l .picked) (l .i) (omega arith) (l .inv .4) (c .before .if1 .taken) in
+    let f = parted-pick (flagged (a .picks .now)) keyUnmarked 0 (a .keys .now) (l .next) _ (l .kept) (l .picked) (l .i) (omega arith) (l .inv .4) (c .before .if1 .taken) in
     (omega arith, l .inv .1, l .inv .2, simp length-set (l .inv .3), rw (c .unmarked .ensures) f)
 
 mul-next-2 : tie.Need-mul-next-2 Inv-loop μ-loop
@@ -110,7 +110,7 @@ loop-again-2 : tie.Need-loop-again-2 Inv-loop μ-loop
 loop-again-2 c =
     let a = c .before .before .before .before .before .before .before .before .args in
     let l = c .before .before .before .before .loop in
-    let f = filled-keep (flagged (a .picks .now)) keyUnmarked 0 (a .keys .now) (l .next) _ (l .kept) (l .picked) (l .i) (omega arith) (l .inv .4) (c .if1 .left) in
+    let f = parted-keep (flagged (a .picks .now)) keyUnmarked 0 (a .keys .now) (l .next) _ (l .kept) (l .picked) (l .i) (omega arith) (l .inv .4) (c .if1 .left) in
     (omega arith, l .inv .1, l .inv .2, simp length-set (l .inv .3), f)
 
 same-length : tie.Need-same-length Inv-loop μ-loop
@@ -120,7 +120,7 @@ returns : tie.Need-returns Inv-loop μ-loop
 returns c =
     let a = c .before .before .before .before .before .args in
     let l = c .before .loop in
-    filled-end (flagged (a .picks .now)) keyUnmarked 0 (a .keys .now) (l .next) _ (l .kept) (l .picked) (l .i) (omega arith) (l .inv .4)
+    parted-end (flagged (a .picks .now)) keyUnmarked 0 (a .keys .now) (l .next) _ (l .kept) (l .picked) (l .i) (omega arith) (l .inv .4)
 
 pub sweep-spec : {M : Type 1} → statement M
 sweep-spec =

@@ -10,7 +10,7 @@ use lib.Ieee as Ieee
 use borrow.Author.Needs.{needs}
 use borrow.Author.Tests.{lt-ltb, le-ltb, not-true, not-false}
 use Rattle.def.specs.Binary.{floorLog2}
-use Rattle.seq.specs.Table.{entries, entriesFrom}
+use Rattle.seq.specs.Lists.{entries, entriesFrom}
 use Rattle.tbl.specs.DepthRows.{isGopSize, sliceDepth, depthRule}
 use Rattle.tbl.proofs.Rows.{Gop, gop, depth-at, shown-depth, no-length, no-position}
 use Rattle.tbl.proofs.slice_depth.Statement.{statement}

@@ -6,7 +6,7 @@ use lib.Bits.{or-zero-r}
 use lib.Dec.{eqb}
 use borrow.Author.Needs.{needs}
 use borrow.Author.Tests.{eqb-true}
-use Rattle.seq.specs.All.{and-left, and-right}
+use Rattle.seq.proofs.Tests.{and-left, and-right}
 use Rattle.whole.specs.declared.Tally.{Tally}
 use Rattle.whole.specs.Tallies.{tallied}
 use Rattle.whole.proofs.tally_three.Statement.{statement}

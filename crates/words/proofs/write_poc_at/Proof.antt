@@ -9,7 +9,8 @@ use lib.Signed.{mag}
 use mir.Syntax.{w32}
 use mir.Val.{toZ, ofZ}
 use mir.ValLaws.{toZ-ofZ}
-use Rattle.seq.specs.Stores.{Stored, stored-then}
+use Rattle.seq.specs.Lists.{Stored}
+use Rattle.seq.proofs.Stores.{stored-then}
 use Rattle.def.specs.Word.{wordBytes, twosComplement}
 use Rattle.words.specs.Words.{pocBytes}
 use borrow.Author.Needs.{needs}

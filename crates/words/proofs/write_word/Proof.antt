@@ -5,7 +5,7 @@ use Prim.Native.Nat.{_/_, _%_}
 use native.Mathlib.Omega.{arith}
 use lib.ListN.{length-set}
 use borrow.Author.Needs.{needs}
-use Rattle.seq.specs.Stores.{stored-one, stored-then}
+use Rattle.seq.proofs.Stores.{stored-one, stored-then}
 use Rattle.words.proofs.write_word.Statement.{statement}
 use Rattle.words.proofs.write_word.Tie as tie
 

@@ -5,7 +5,7 @@ use mathlib.Core.Path.{_≡_, ap, _∙_}
 use mathlib.Core.List.{List}
 use lib.ListN.{getD}
 use borrow.Author.Tests.{le-ltb}
-use Rattle.seq.specs.Table.{entry}
+use Rattle.seq.proofs.Rows.{entry}
 use Rattle.hex.specs.Hex.{tableEntry, digitPair, digitTables}
 use borrow.Author.Needs.{needs}
 use Rattle.writing.proofs.digit_pair_in.Statement.{statement}

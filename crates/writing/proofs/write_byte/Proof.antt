@@ -6,7 +6,7 @@ use mathlib.Core.Path.{_≡_, ap, _∙_}
 use mathlib.Core.Bool.{Bool, true, false, cond}
 use lib.Dec.{ltb}
 use lib.ListN.{length-set}
-use Rattle.seq.specs.Stores.{stored-one, stored-then}
+use Rattle.seq.proofs.Stores.{stored-one, stored-then}
 use Rattle.hex.specs.Hex.{digitOf, digitsOf}
 use borrow.Author.Needs.{needs}
 use Rattle.writing.proofs.write_byte.Statement.{statement}

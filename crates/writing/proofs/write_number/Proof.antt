@@ -3,7 +3,7 @@
 use Prim.Native.Nat.{ℕ, _+_, _/_, _%_}
 use native.Mathlib.Omega.{arith}
 use mathlib.Core.Path.{_≡_}
-use Rattle.seq.specs.Stores.{stored-then}
+use Rattle.seq.proofs.Stores.{stored-then}
 use Rattle.hex.specs.Hex.{digitsOf, sum8}
 use borrow.Author.Needs.{needs}
 use Rattle.writing.proofs.write_number.Statement.{statement}

@@ -4,7 +4,8 @@ use Prim.Native.Nat.{ℕ}
 use mathlib.Core.Path.{_≡_, refl, subst, _∙_}
 use mathlib.Core.List.{List, [], _∷_}
 use lib.Seq.{sets-eq}
-use Rattle.seq.specs.Stores.{Stored, stored-one, stored-then, stored-length}
+use Rattle.seq.specs.Lists.{Stored}
+use Rattle.seq.proofs.Stores.{stored-one, stored-then, stored-length}
 use Rattle.hex.specs.Hex.{digitsOf, sum8, checkByte}
 use Rattle.buffer.specs.Buffer.{newline}
 use Rattle.line.specs.Answers.{replyBytes, answerDigits, answerLine}

@@ -3,7 +3,7 @@
 use Prim.Native.Nat.{_-_}
 use native.Mathlib.Omega.{arith}
 use mathlib.Core.Path.{refl}
-use Rattle.seq.specs.Fills.{Filled, fill-none, fill-turn, fill-end}
+use Rattle.seq.proofs.Rows.{Filled, fill-none, fill-turn, fill-end}
 use Rattle.hex.specs.Hex.{tableEntry, digitTables}
 use Rattle.hex.proofs.tables.digit_tables.Statement.{statement}
 use Rattle.hex.proofs.tables.digit_tables.Tie as tie

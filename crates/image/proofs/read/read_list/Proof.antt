@@ -3,7 +3,7 @@
 use mathlib.Core.Path.{refl}
 use Prim.Native.Nat.{_+_, _*_, _-_}
 use borrow.Author.Needs.{needs}
-use Rattle.seq.specs.Fills.{Filled, fill-none, fill-turn, fill-end}
+use Rattle.seq.proofs.Rows.{Filled, fill-none, fill-turn, fill-end}
 use Rattle.def.specs.State.{listPlaces}
 use Rattle.image.specs.Image.{wordWidth, wordAt, listAt}
 use Rattle.image.proofs.read.read_list.Statement.{statement}

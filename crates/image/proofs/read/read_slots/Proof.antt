@@ -4,7 +4,7 @@ use mathlib.Core.Path.{refl, sym, ap, _∙_}
 use Prim.Native.Nat.{_+_, _*_, _-_}
 use native.Mathlib.Nat.{zero-add}
 use borrow.Author.Needs.{needs}
-use Rattle.seq.specs.Fills.{Filled, fill-none, fill-turn, fill-end}
+use Rattle.seq.proofs.Rows.{Filled, fill-none, fill-turn, fill-end}
 use Rattle.def.specs.State.{slots}
 use Rattle.image.specs.Image.{slotWidth, slotAt, pmOf}
 use Rattle.image.proofs.read.read_slots.Statement.{statement}

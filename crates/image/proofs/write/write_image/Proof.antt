@@ -1,7 +1,7 @@
 -- `image::write::write_image` meets its contract: state, lists and record, stored one after the other, fill the image.
 -- Assumes nothing.
 use borrow.Author.Needs.{needs}
-use Rattle.seq.specs.Stores.{stored-then, stored-whole}
+use Rattle.seq.proofs.Stores.{stored-then, stored-whole}
 use Rattle.image.specs.Image.{imageBytes}
 use Rattle.image.proofs.write.write_image.Statement.{statement}
 use Rattle.image.proofs.write.write_image.Tie as tie

@@ -4,7 +4,7 @@ use mathlib.Core.Path.{_≡_}
 use Prim.Native.Nat.{_-_}
 use borrow.Author.Needs.{needs}
 use lib.ListN.{length}
-use Rattle.seq.specs.Stores.{Storing, storing-none, storing-turn, storing-end}
+use Rattle.seq.proofs.Stores.{Storing, storing-none, storing-turn, storing-end}
 use Rattle.def.specs.State.{listPlaces}
 use Rattle.def.specs.Word.{wordBytes}
 use Rattle.image.specs.Image.{wordWidth, listBytes}

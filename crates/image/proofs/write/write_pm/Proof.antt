@@ -1,6 +1,6 @@
 -- `image::write::write_pm` meets its contract: the slots, the lease and the numbers, stored one after the other.
 -- Assumes nothing.
-use Rattle.seq.specs.Stores.{stored-then}
+use Rattle.seq.proofs.Stores.{stored-then}
 use Rattle.image.specs.Image.{pmBytes}
 use borrow.Author.Needs.{needs}
 use Rattle.image.proofs.write.write_pm.Statement.{statement}

@@ -5,7 +5,8 @@ use mathlib.Core.List.{List, _∷_}
 use Prim.Native.Nat.{ℕ}
 use native.Mathlib.Omega.{arith}
 use lib.ListN.{length-set}
-use Rattle.seq.specs.Stores.{Stored, stored-one, stored-then, stored-length}
+use Rattle.seq.specs.Lists.{Stored}
+use Rattle.seq.proofs.Stores.{stored-one, stored-then, stored-length}
 use Rattle.def.specs.Word.{wordBytes}
 use Rattle.def.specs.declared.EvcRefP.{EvcRefP}
 use Rattle.image.specs.Image.{refpWidth, flagByte, refpBytes}

@@ -5,7 +5,7 @@ use Prim.Native.Nat.{_*_, _-_}
 use native.Mathlib.Nat.{zero-add}
 use borrow.Author.Needs.{needs}
 use lib.ListN.{length}
-use Rattle.seq.specs.Stores.{Storing, storing-none, storing-turn, storing-end}
+use Rattle.seq.proofs.Stores.{Storing, storing-none, storing-turn, storing-end}
 use Rattle.def.specs.State.{slots, noSlot}
 use Rattle.image.specs.Image.{slotWidth, slotBytes}
 use Rattle.image.proofs.write.write_slots.Statement.{statement}

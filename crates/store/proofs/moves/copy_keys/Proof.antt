@@ -5,7 +5,7 @@ use native.Mathlib.Omega.{arith}
 use borrow.Author.Needs.{needs}
 use lib.ListN.{length, take, length-set}
 use lib.Seq.{take-all}
-use Rattle.seq.specs.Commute.{copy-turn}
+use Rattle.seq.proofs.Maps.{copy-turn}
 use Rattle.store.proofs.moves.copy_keys.Statement.{statement}
 use Rattle.store.proofs.moves.copy_keys.Tie as tie
 

@@ -8,7 +8,7 @@ use borrow.Author.Needs.{needs}
 use lib.ListN.{length, getD, set, length-set}
 use lib.Seq.{set-getD}
 use Rattle.seq.specs.Lists.{moveTo}
-use Rattle.seq.specs.Moves.{move-self, move-step}
+use Rattle.seq.proofs.Orders.{move-self, move-step}
 use Rattle.store.proofs.moves.move_last.Statement.{statement}
 use Rattle.store.proofs.moves.move_last.Tie as tie
 

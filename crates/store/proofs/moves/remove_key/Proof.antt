@@ -4,8 +4,7 @@ use native.Mathlib.Omega.{arith}
 use borrow.Author.Needs.{needs}
 use lib.ListN.{length}
 use Rattle.seq.specs.Lists.{removeAt}
-use Rattle.seq.specs.Moves.{move-out}
-use Rattle.seq.specs.Changes.{remove-length}
+use Rattle.seq.proofs.Orders.{move-out, remove-length}
 use Rattle.store.proofs.moves.remove_key.Statement.{statement}
 use Rattle.store.proofs.moves.remove_key.Tie as tie
 

@@ -5,14 +5,14 @@ use native.Mathlib.Omega.{arith}
 use borrow.Author.Needs.{needs}
 use mir.Val.{boolByte}
 use lib.ListN.{length, drop}
-use Rattle.seq.specs.Lists.{count}
-use Rattle.seq.specs.Walks.{counted, count-end}
+use Rattle.seq.specs.Lists.{countIf}
+use Rattle.seq.proofs.Walks.{counted, count-end}
 use Rattle.keys.specs.Keys.{keyMarked}
 use Rattle.store.proofs.search.count_marked.Statement.{statement}
 use Rattle.store.proofs.search.count_marked.Tie as tie
 
 abbrev Inv-loop : tie.InvT-loop
-Inv-loop keys marked₀ i₀ marked i = (i ≤ 27) × (length keys ≡ 27) × (marked + count keyMarked (drop i keys) ≡ count keyMarked keys)
+Inv-loop keys marked₀ i₀ marked i = (i ≤ 27) × (length keys ≡ 27) × (marked + countIf keyMarked (drop i keys) ≡ countIf keyMarked keys)
 
 abbrev μ-loop : tie.MeasureT-loop
 μ-loop keys marked₀ i₀ marked i = 27 - i

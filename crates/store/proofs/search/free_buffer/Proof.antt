@@ -5,8 +5,7 @@ use native.Mathlib.Omega.{arith}
 use borrow.Author.Needs.{needs}
 use lib.ListN.{length, length-map}
 use Rattle.seq.specs.Lists.{select}
-use Rattle.seq.specs.All.{count-length}
-use Rattle.seq.specs.Counts.{length-select}
+use Rattle.seq.proofs.Tests.{count-length, length-select}
 use Rattle.store.proofs.Holding.{lowest-free}
 use Rattle.keys.specs.Keys.{keyPresent, keyBuffer, keyBuffers}
 use Rattle.store.proofs.search.free_buffer.Statement.{statement}

@@ -6,21 +6,21 @@ use native.Mathlib.Omega.{arith}
 use borrow.Author.Needs.{needs}
 use lib.Dec.{eqb}
 use lib.ListN.{length, drop, getD, length-set, getD-replicate, drop-of-length-le}
-use Rattle.seq.specs.Lists.{any, select}
+use Rattle.seq.specs.Lists.{anyOf, select}
 use Rattle.keys.specs.Keys.{keyBuffers}
 use Rattle.store.proofs.Holding.{flag-step}
 use Rattle.store.proofs.search.held_buffers.Statement.{statement}
 use Rattle.store.proofs.search.held_buffers.Tie as tie
 
 abbrev Inv-loop : tie.InvT-loop
-Inv-loop keys held₀ i₀ held i = (i ≤ 27) × (length keys ≡ 27) × (length held ≡ 32) × ((b : ℕ) → b < 32 → (getD held b false || any (eqb b) (keyBuffers (drop i keys))) ≡ any (eqb b) (keyBuffers keys))
+Inv-loop keys held₀ i₀ held i = (i ≤ 27) × (length keys ≡ 27) × (length held ≡ 32) × ((b : ℕ) → b < 32 → (getD held b false || anyOf (eqb b) (keyBuffers (drop i keys))) ≡ anyOf (eqb b) (keyBuffers keys))
 
 abbrev μ-loop : tie.MeasureT-loop
 μ-loop keys held₀ i₀ held i = 27 - i
 
 loop-holds : tie.Need-loop-holds Inv-loop μ-loop
 loop-holds c =
-    (omega arith, c .before .pre, refl, λ b h. ap (λ (t : Bool). t || any (eqb b) (keyBuffers (c .before .args .keys .now))) (getD-replicate 32 b false false h))
+    (omega arith, c .before .pre, refl, λ b h. ap (λ (t : Bool). t || anyOf (eqb b) (keyBuffers (c .before .args .keys .now))) (getD-replicate 32 b false false h))
 
 mul-k : tie.Need-mul-k Inv-loop μ-loop
 mul-k c = search needs
@@ -57,7 +57,7 @@ loop-again c =
     )
 
 returns : tie.Need-returns Inv-loop μ-loop
-unfolding any select
+unfolding anyOf select
 returns c =
     record {
       size = c .before .loop .inv .2;

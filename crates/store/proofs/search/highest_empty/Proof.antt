@@ -5,20 +5,20 @@ use native.Mathlib.Omega.{arith}
 use borrow.Author.Needs.{needs}
 use mathlib.Core.Bool.{false, not}
 use lib.ListN.{length, drop, drop-of-length-le}
-use Rattle.seq.specs.Lists.{any}
-use Rattle.seq.specs.Lowest.{highest-found, none-from, highest-none}
+use Rattle.seq.specs.Lists.{anyOf}
+use Rattle.seq.proofs.Walks.{highest-found, none-from, highest-none}
 use Rattle.keys.specs.Keys.{keyEmpty}
 use Rattle.store.proofs.search.highest_empty.Statement.{statement}
 use Rattle.store.proofs.search.highest_empty.Tie as tie
 
 abbrev Inv-loop : tie.InvT-loop
-Inv-loop keys i₀ i = (i ≤ 27) × (length keys ≡ 27) × (any keyEmpty (drop i keys) ≡ false)
+Inv-loop keys i₀ i = (i ≤ 27) × (length keys ≡ 27) × (anyOf keyEmpty (drop i keys) ≡ false)
 
 abbrev μ-loop : tie.MeasureT-loop
 μ-loop keys i₀ i = i
 
 loop-holds : tie.Need-loop-holds Inv-loop μ-loop
-unfolding any
+unfolding anyOf
 loop-holds c = let n : length (c .before .args .keys .now) ≡ 27 = c .before .pre in (omega arith, n, rw (drop-of-length-le (c .before .args .keys .now) {i = 27} (omega arith)))
 
 sub-i : tie.Need-sub-i Inv-loop μ-loop

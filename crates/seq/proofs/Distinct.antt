@@ -1,19 +1,22 @@
--- Lists in which nothing stands twice: mapped, joined, selected; how long they can be; a number that must stand in one.
+-- Lists in which nothing stands twice, how long they can be, and how often a number stands in a list.
 -- Assumes nothing.
 use mathlib.Core.Path.{_≡_, refl, sym, ap, subst}
-use mathlib.Core.Bool.{Bool, true, false, cond, not}
-use mathlib.Core.List.{List, [], _∷_, _++_, map, List·Memᴰ, List·Memᴰ·head, List·Memᴰ·tail, List·Memᴰ·not-nil, List·Memᴰ·cases-cons, List·Memᴰ·append-cases, Memᴰ·append-left, Memᴰ·append-right, Memᴰ·cast, map-id}
+use mathlib.Core.Bool.{Bool, true, false, cond, not, _&&_}
+use mathlib.Core.List.{List, [], _∷_, _++_, map, List·Memᴰ, List·Memᴰ·head, List·Memᴰ·tail, List·Memᴰ·not-nil, List·Memᴰ·cases-cons, List·Memᴰ·append-cases, Memᴰ·append-left, Memᴰ·append-right, Memᴰ·cast, map-id, Memᴰ·map}
 use mathlib.Core.Logic.{_⊎_, inl, inr, ⊎-elim}
 use Prim.Native.Nat.{ℕ, zero, suc, _≤_, _<_}
-use native.Mathlib.Nat.{not-suc-le-zero}
 use native.Mathlib.Decide.{ℕ-discrete}
+use native.Mathlib.Nat.{not-suc-le-zero}
 use native.Mathlib.Omega.{arith}
 use lib.Arith.{lt-of-le-ne}
 use lib.Dec.{eqb}
 use lib.ListN.{length}
-use borrow.Author.Tests.{eqb-true, eqb-false, not-true}
-use Rattle.seq.specs.Lists.{select, Distinct, Once}
-use Rattle.seq.specs.Members.{mem-map, mem-unmap, mem-select, find-mem}
+use borrow.Author.Tests.{eqb-true, eqb-false, not-true, eq-eqb, ne-eqb}
+use Rattle.seq.specs.Lists.{SameNumbers, select, Distinct, Once, countIf}
+use Rattle.seq.proofs.Members.{mem-unmap, mem-select, find-mem}
+use Rattle.seq.proofs.Tests.{count-yes, count-tail, count-none, count-some}
+
+-- ---- lists in which nothing stands twice: mapped, joined, selected; how long they can be; a number that must stand in one
 
 -- where members that g joins are joined by f too, f's images differing, g's do
 pub distinct-by : {A B C : Type 0} (f : A → B) (g : A → C) (xs : List A) → ((a b : A) → List·Memᴰ a xs → List·Memᴰ b xs → g a ≡ g b → f a ≡ f b)
@@ -22,7 +25,7 @@ unfolding Distinct
 distinct-by f g [] joined d = tt
 distinct-by f g (x ∷ xs) joined d = (
   λ m. let u = mem-unmap g xs m in
-      d .0 (Memᴰ·cast (joined x (u .0) (List·Memᴰ·head refl) (List·Memᴰ·tail (u .1)) (u .2)) (mem-map f (u .1))),
+      d .0 (Memᴰ·cast (joined x (u .0) (List·Memᴰ·head refl) (List·Memᴰ·tail (u .1)) (u .2)) (Memᴰ·map f (u .1))),
   distinct-by f g xs (λ a b m n e. joined a b (List·Memᴰ·tail m) (List·Memᴰ·tail n) e) (d .1),
 )
 
@@ -96,25 +99,25 @@ module _ {A : Type 0} where
 -- ---- how long a distinct list of numbers can be
 
 -- the list without the number n: one shorter at most
-abbrev others : ℕ → List ℕ → List ℕ
-others n xs = select (λ x. not (eqb x n)) xs
+abbrev without : ℕ → List ℕ → List ℕ
+without n xs = select (λ x. not (eqb x n)) xs
 
-others-all : (n : ℕ) (xs : List ℕ) → (List·Memᴰ n xs → ⊥) → length (others n xs) ≡ length xs
+without-all : (n : ℕ) (xs : List ℕ) → (List·Memᴰ n xs → ⊥) → length (without n xs) ≡ length xs
 unfolding select
-others-all n [] f = refl
-others-all n (x ∷ xs) f = pick (eqb x n) refl (others-all n xs (λ m. f (List·Memᴰ·tail m)))
+without-all n [] f = refl
+without-all n (x ∷ xs) f = pick (eqb x n) refl (without-all n xs (λ m. f (List·Memᴰ·tail m)))
   where
-    pick : (b : Bool) → eqb x n ≡ b → length (others n xs) ≡ length xs → length (cond (not b) (x ∷ others n xs) (others n xs)) ≡ suc (length xs)
+    pick : (b : Bool) → eqb x n ≡ b → length (without n xs) ≡ length xs → length (cond (not b) (x ∷ without n xs) (without n xs)) ≡ suc (length xs)
     pick true e ih = absurd (f (List·Memᴰ·head (sym (eqb-true x n e))))
     pick false e ih = ap suc ih
 
-others-length : (n : ℕ) (xs : List ℕ) → Distinct xs → length xs ≤ suc (length (others n xs))
+without-length : (n : ℕ) (xs : List ℕ) → Distinct xs → length xs ≤ suc (length (without n xs))
 unfolding Distinct select
-others-length n [] d = omega arith
-others-length n (x ∷ xs) d = pick (eqb x n) refl (others-length n xs (d .1))
+without-length n [] d = omega arith
+without-length n (x ∷ xs) d = pick (eqb x n) refl (without-length n xs (d .1))
   where
-    pick : (b : Bool) → eqb x n ≡ b → length xs ≤ suc (length (others n xs)) → suc (length xs) ≤ suc (length (cond (not b) (x ∷ others n xs) (others n xs)))
-    pick true e ih = omega (arith, others-all n xs (λ m. d .0 (Memᴰ·cast (eqb-true x n e) m)))
+    pick : (b : Bool) → eqb x n ≡ b → length xs ≤ suc (length (without n xs)) → suc (length xs) ≤ suc (length (cond (not b) (x ∷ without n xs) (without n xs)))
+    pick true e ih = omega (arith, without-all n xs (λ m. d .0 (Memᴰ·cast (eqb-true x n e) m)))
     pick false e ih = omega arith
 
 -- numbers below n, none twice: at most n of them
@@ -125,10 +128,10 @@ pigeonhole zero xs d below = none xs below
     none [] f = omega arith
     none (x ∷ xs) f = absurd (not-suc-le-zero (f x (List·Memᴰ·head refl)))
 pigeonhole (suc n) xs d below =
-    let ih = pigeonhole n (others n xs) (distinct-select _ xs d) left in
-    omega (arith, others-length n xs d)
+    let ih = pigeonhole n (without n xs) (distinct-select _ xs d) left in
+    omega (arith, without-length n xs d)
   where
-    left : (y : ℕ) → List·Memᴰ y (others n xs) → y < n
+    left : (y : ℕ) → List·Memᴰ y (without n xs) → y < n
     left y m =
         let s = mem-select (λ z. not (eqb z n)) xs m in
         let l = below y (s .0) in
@@ -160,3 +163,58 @@ pub climbing-distinct : (d : ℕ) (xs : List ℕ) → Climbing d xs → Distinct
 unfolding Climbing Distinct
 climbing-distinct d [] c = tt
 climbing-distinct d (x ∷ xs) c = (λ m. let h = climbing-above x xs (c .1) x m in omega arith, climbing-distinct x xs (c .1))
+
+-- ---- how often a number stands in a list: at most once where the numbers differ, and as often in another list that has the same numbers
+
+pub often-none : (n : ℕ) (ns : List ℕ) → (List·Memᴰ n ns → ⊥) → countIf (eqb n) ns ≡ 0
+often-none n ns f = count-none (eqb n) ns (λ m i. ne-eqb n m (λ e. f (Memᴰ·cast e i)))
+
+pub often-mem : (n : ℕ) (ns : List ℕ) → 0 < countIf (eqb n) ns → List·Memᴰ n ns
+often-mem n ns h = ⊎-elim (λ i. i) (λ f. absurd (let e = often-none n ns f in omega arith)) (find-mem ℕ-discrete n ns)
+
+pub mem-often : {n : ℕ} (ns : List ℕ) → List·Memᴰ n ns → 0 < countIf (eqb n) ns
+mem-often {n} ns i = count-some (eqb n) ns i (eq-eqb n n refl)
+
+pub distinct-once : (ns : List ℕ) → Distinct ns → (n : ℕ) → countIf (eqb n) ns ≤ 1
+unfolding Distinct countIf
+distinct-once [] d n = omega arith
+distinct-once (m ∷ ms) d n = pick (eqb n m) refl (distinct-once ms (d .1) n)
+  where
+    pick : (b : Bool) → eqb n m ≡ b → countIf (eqb n) ms ≤ 1 → cond b (suc (countIf (eqb n) ms)) (countIf (eqb n) ms) ≤ 1
+    pick true e h = let z = often-none n ms (λ i. d .0 (Memᴰ·cast (sym (eqb-true n m e)) i)) in omega arith
+    pick false e h = h
+
+pub once-distinct : (ns : List ℕ) → ((n : ℕ) → countIf (eqb n) ns ≤ 1) → Distinct ns
+unfolding Distinct
+once-distinct [] f = tt
+once-distinct (m ∷ ms) f = (
+  λ i. let h = mem-often ms i in let y = count-yes (eqb m) m ms (eq-eqb m m refl) in let l = f m in omega arith,
+  once-distinct ms (λ n. let l = f n in let t = count-tail (eqb n) m ms in omega arith),
+)
+
+-- each number at most as often: what holds of the members of the one list holds of the other's
+module _ (ms ns : List ℕ) (fewer : (n : ℕ) → countIf (eqb n) ns ≤ countIf (eqb n) ms) where
+  pub fewer-mem : {n : ℕ} → List·Memᴰ n ns → List·Memᴰ n ms
+  fewer-mem {n} i = often-mem n ms (let h = mem-often ns i in let e = fewer n in omega arith)
+
+  pub fewer-distinct : Distinct ms → Distinct ns
+  fewer-distinct d = once-distinct ns (λ n. let h = distinct-once ms d n in let e = fewer n in omega arith)
+
+module _ (ms ns : List ℕ) (same : SameNumbers ms ns) where
+  pub same-mem : {n : ℕ} → List·Memᴰ n ns → List·Memᴰ n ms
+  same-mem = fewer-mem ms ns (λ n. let e = same n in omega arith)
+
+  pub same-distinct : Distinct ms → Distinct ns
+  same-distinct = fewer-distinct ms ns (λ n. let e = same n in omega arith)
+
+-- of the elements that pass p, the number under f passes q
+pub count-select-map : {A : Type 0} (p : A → Bool) (f : A → ℕ) (q : ℕ → Bool) (xs : List A)
+    → countIf q (map f (select p xs)) ≡ countIf (λ x. p x && q (f x)) xs
+unfolding countIf select
+count-select-map p f q [] = refl
+count-select-map p f q (x ∷ xs) = pick (p x) (count-select-map p f q xs)
+  where
+    pick : (a : Bool) → countIf q (map f (select p xs)) ≡ countIf (λ y. p y && q (f y)) xs
+        → countIf q (map f (cond a (x ∷ select p xs) (select p xs))) ≡ cond (a && q (f x)) (suc (countIf (λ y. p y && q (f y)) xs)) (countIf (λ y. p y && q (f y)) xs)
+    pick true e = ap (λ (n : ℕ). cond (q (f x)) (suc n) n) e
+    pick false e = e

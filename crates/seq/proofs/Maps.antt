@@ -4,11 +4,11 @@ use mathlib.Core.Path.{_≡_, refl, sym, ap}
 use mathlib.Core.Bool.{Bool, true, false, cond}
 use mathlib.Core.List.{List, [], _∷_, _++_, map}
 use Prim.Native.Nat.{ℕ, zero, suc, _+_, _<_}
+use native.Mathlib.Numerals.{add-one}
 use lib.ListN.{length, getD, take, drop, set}
 use lib.Seq.{slice, take-suc, take-suc-set}
-use native.Mathlib.Numerals.{add-one}
-use Rattle.seq.specs.Lists.{count, any, select, selectAt, lowest, highest, removeAt, moveTo}
-use Rattle.seq.specs.Maps.{map-at}
+use Rattle.seq.specs.Lists.{countIf, anyOf, select, selectAt, lowest, highest, removeAt, moveTo}
+use Rattle.seq.proofs.Members.{map-at}
 
 module _ {A B : Type 0} (f : A → B) where
   pub map-append : (xs ys : List A) → map f (xs ++ ys) ≡ map f xs ++ map f ys
@@ -39,8 +39,8 @@ module _ {A B : Type 0} (f : A → B) where
   map-lowest p [] = refl
   map-lowest p (x ∷ xs) = rw (map-lowest p xs)
 
-  pub map-count : (p : B → Bool) (xs : List A) → count p (map f xs) ≡ count (λ x. p (f x)) xs
-  unfolding count
+  pub map-count : (p : B → Bool) (xs : List A) → countIf p (map f xs) ≡ countIf (λ x. p (f x)) xs
+  unfolding countIf
   map-count p [] = refl
   map-count p (x ∷ xs) = rw (map-count p xs)
 
@@ -83,8 +83,8 @@ fill-turn f d xs ys i h k e =
 pub copy-turn : {A : Type 0} (d : A) (xs ys : List A) (i : ℕ) → i < length xs → i < length ys → take i ys ≡ take i xs → take (i + 1) (set ys i (getD xs i d)) ≡ take (i + 1) xs
 copy-turn d xs ys i h k e = rw (add-one i, take-suc-set ys i (getD xs i d) k, take-suc xs i d h, e)
 
-pub map-any : {A B : Type 0} (f : A → B) (p : B → Bool) (xs : List A) → any p (map f xs) ≡ any (λ x. p (f x)) xs
-unfolding any
+pub map-any : {A B : Type 0} (f : A → B) (p : B → Bool) (xs : List A) → anyOf p (map f xs) ≡ anyOf (λ x. p (f x)) xs
+unfolding anyOf
 map-any f p [] = refl
 map-any f p (x ∷ xs) = rw (map-any f p xs)
 

@@ -1,5 +1,4 @@
--- Numbers that all differ, as a test and as a fact; and the smallest number that does not stand in a list: it is at most the list's length,
--- it does not stand there, and every smaller one does.
+-- Numbers that all differ, as a test and as a fact; and the smallest number that does not stand in a list.
 -- Assumes nothing.
 use mathlib.Core.Path.{_≡_, refl, sym, ap, subst, _∙_}
 use mathlib.Core.Bool.{Bool, true, false, cond, not}
@@ -11,17 +10,16 @@ use native.Mathlib.Omega.{arith}
 use lib.Dec.{eqb}
 use lib.ListN.{length}
 use borrow.Author.Tests.{eq-eqb, ne-eqb, not-true}
-use Rattle.seq.specs.Lists.{any, select, Distinct, smallestFrom, smallestNotIn, allDiffer}
-use Rattle.seq.specs.Numbers.{lt-or-ge}
-use Rattle.seq.specs.Members.{select-mem}
-use Rattle.seq.specs.All.{and-left, and-right, and-both, any-mem, not-any, any-not}
+use Rattle.seq.specs.Lists.{anyOf, select, Distinct, smallestFrom, smallestNotIn, allDiffer}
+use Rattle.seq.proofs.Members.{select-mem}
+use Rattle.seq.proofs.Tests.{lt-or-ge, and-left, and-right, and-both, any-mem, not-any, any-not}
 
 pub differ-distinct : (ns : List ℕ) → allDiffer ns ≡ true → Distinct ns
 unfolding allDiffer Distinct
 differ-distinct [] e = tt
 differ-distinct (n ∷ ns) e = (
-  any-not ns (not-true (any (eqb n) ns) (and-left (not (any (eqb n) ns)) (allDiffer ns) e)),
-  differ-distinct ns (and-right (not (any (eqb n) ns)) (allDiffer ns) e),
+  any-not ns (not-true (anyOf (eqb n) ns) (and-left (not (anyOf (eqb n) ns)) (allDiffer ns) e)),
+  differ-distinct ns (and-right (not (anyOf (eqb n) ns)) (allDiffer ns) e),
 )
 
 pub distinct-differ : (ns : List ℕ) → Distinct ns → allDiffer ns ≡ true
@@ -108,15 +106,15 @@ record SmallestFrom (k n : ℕ) (ns : List ℕ) (r : ℕ) : Type 0 where
 smallest-from : (k n : ℕ) (ns : List ℕ) → SmallestFrom k n ns (smallestFrom k n ns)
 unfolding smallestFrom
 smallest-from zero n ns = record { bound = omega arith; missing = λ l. absurd (omega arith); smaller = λ j h l. absurd (omega arith) }
-smallest-from (suc k) n ns = pick (any (eqb n) ns) refl (smallest-from k (suc n) ns)
+smallest-from (suc k) n ns = pick (anyOf (eqb n) ns) refl (smallest-from k (suc n) ns)
   where
-    pick : (b : Bool) → any (eqb n) ns ≡ b → SmallestFrom k (suc n) ns (smallestFrom k (suc n) ns)
+    pick : (b : Bool) → anyOf (eqb n) ns ≡ b → SmallestFrom k (suc n) ns (smallestFrom k (suc n) ns)
         → SmallestFrom (suc k) n ns (cond b (smallestFrom k (suc n) ns) n)
     pick true e s =
         record {
           bound = let h = s .bound in omega arith;
           missing = λ l. s .missing (omega arith);
-          smaller = λ j h l. ⊎-elim (λ g. s .smaller j g l) (λ g. any-mem j ns (subst (λ (i : ℕ). any (eqb i) ns ≡ true) (omega arith) e)) (lt-or-ge n j);
+          smaller = λ j h l. ⊎-elim (λ g. s .smaller j g l) (λ g. any-mem j ns (subst (λ (i : ℕ). anyOf (eqb i) ns ≡ true) (omega arith) e)) (lt-or-ge n j);
         }
     pick false e s = record { bound = omega arith; missing = λ l. any-not ns e; smaller = λ j h l. absurd (omega arith) }
 

@@ -1,5 +1,4 @@
--- A stable partition made in one pass over a list: what a test does not pick fills the front of another list of that length, and what it picks,
--- changed by f, the places from m on, where m is how many it does not pick.
+-- A list parted by a test in one pass, in the order that the elements had.
 -- Assumes nothing.
 use mathlib.Core.Path.{_≡_, refl, sym, ap, _∙_}
 use mathlib.Core.Bool.{Bool, true, false, cond, not}
@@ -7,10 +6,40 @@ use mathlib.Core.List.{List, [], _∷_, _++_, map, append-nil}
 use Prim.Native.Nat.{ℕ, suc, _+_, _≤_, _<_}
 use native.Mathlib.Numerals.{add-one}
 use native.Mathlib.Omega.{arith}
-use lib.ListN.{length, take, drop, getD, set, length-set, length-drop, take-append-drop}
-use lib.Seq.{take-all, append-snoc, take-suc-set, take-set-le, drop-set-lt, drop-set-add}
+use lib.ListN.{length, drop, getD, drop-of-length-le, take, set, length-set, length-drop, take-append-drop}
+use lib.Seq.{drop-cons, take-all, append-snoc, take-suc-set, take-set-le, drop-set-lt, drop-set-add}
 use Rattle.seq.specs.Lists.{selectAt}
-use Rattle.seq.specs.Places.{select-hit, select-miss, select-end}
+
+-- ---- a list gone over from place i on: its elements selected by element and place
+
+module _ {A : Type 0} (p : ℕ → A → Bool) (d : A) (xs : List A) (i : ℕ) where
+  -- the element at place i is selected, and the rest from place i + 1 on
+  pub select-hit : i < length xs → p i (getD xs i d) ≡ true → selectAt p i (drop i xs) ≡ getD xs i d ∷ selectAt p (i + 1) (drop (i + 1) xs)
+  unfolding selectAt
+  select-hit h e = rw (add-one, drop-cons xs i d) (rw e)
+
+  pub select-miss : i < length xs → p i (getD xs i d) ≡ false → selectAt p i (drop i xs) ≡ selectAt p (i + 1) (drop (i + 1) xs)
+  unfolding selectAt
+  select-miss h e = rw (add-one, drop-cons xs i d) (rw e)
+
+  pub select-end : length xs ≤ i → selectAt p i (drop i xs) ≡ []
+  unfolding selectAt
+  select-end h = rw (drop-of-length-le xs h)
+
+-- tests that agree on each element in its place select the same
+pub select-same : {A : Type 0} (p q : ℕ → A → Bool) (d : A) (i : ℕ) (xs : List A)
+    → ((j : ℕ) → j < length xs → p (i + j) (getD xs j d) ≡ q (i + j) (getD xs j d)) → selectAt p i xs ≡ selectAt q i xs
+unfolding selectAt
+select-same p q d i [] h = refl
+select-same {A} p q d i (x ∷ xs) h = rw (here, select-same p q d (suc i) xs there)
+  where
+    here : p i x ≡ q i x
+    here = let z : i + 0 ≡ i = omega arith in rw z at (h 0 (omega arith))
+
+    there : (j : ℕ) → j < length xs → p (suc i + j) (getD xs j d) ≡ q (suc i + j) (getD xs j d)
+    there j l = let z : i + suc j ≡ suc i + j = omega arith in rw z at (h (suc j) (omega arith))
+
+-- ---- a stable partition made in one pass over a list: what a test does not pick fills the front of another list of that length, and what it picks, changed by f, the places from m on, where m is how many it does not pick
 
 module _ {A : Type 0} (p : ℕ → A → Bool) where
   abbrev pub others : ℕ → A → Bool
@@ -29,7 +58,7 @@ module _ {A : Type 0} (p : ℕ → A → Bool) where
       pick false e = omega arith
 
   -- places below i are done: k were not picked and j were
-  pub record Filled (f : A → A) (xs out : List A) (m k j i : ℕ) : Type 0 where
+  pub record Parted (f : A → A) (xs out : List A) (m k j i : ℕ) : Type 0 where
     pub size : length out ≡ length xs
     pub front : take k out ++ selectAt others i (drop i xs) ≡ selectAt others 0 xs
     pub back : take j (drop m out) ++ map f (selectAt p i (drop i xs)) ≡ map f (selectAt p 0 xs)
@@ -37,8 +66,8 @@ module _ {A : Type 0} (p : ℕ → A → Bool) where
     pub back-left : m + j + length (selectAt p i (drop i xs)) ≡ length xs
 
   module _ (f : A → A) (d : A) (xs : List A) where
-    pub filled-start : (m : ℕ) → m ≡ length (selectAt others 0 xs) → Filled f xs xs m 0 0 0
-    filled-start m e =
+    pub parted-start : (m : ℕ) → m ≡ length (selectAt others 0 xs) → Parted f xs xs m 0 0 0
+    parted-start m e =
         record {
           size = refl;
           front = refl;
@@ -47,12 +76,12 @@ module _ {A : Type 0} (p : ℕ → A → Bool) where
           back-left = omega (arith, both-lengths 0 xs);
         }
 
-    module _ (out : List A) (m k j i : ℕ) (h : i < length xs) (w : Filled f xs out m k j i) where
+    module _ (out : List A) (m k j i : ℕ) (h : i < length xs) (w : Parted f xs out m k j i) where
       pub keep-room : p i (getD xs i d) ≡ false → k < m
       keep-room e = omega (arith, ap length (select-hit others d xs i h (ap not e)))
 
-      pub filled-keep : p i (getD xs i d) ≡ false → Filled f xs (set out k (getD xs i d)) m (k + 1) j (i + 1)
-      filled-keep e =
+      pub parted-keep : p i (getD xs i d) ≡ false → Parted f xs (set out k (getD xs i d)) m (k + 1) j (i + 1)
+      parted-keep e =
           let x = getD xs i d in
           let hit = select-hit others d xs i h (ap not e) in
           let miss = select-miss p d xs i h e in
@@ -68,8 +97,8 @@ module _ {A : Type 0} (p : ℕ → A → Bool) where
       pub pick-room : p i (getD xs i d) ≡ true → m + j < length xs
       pick-room e = omega (arith, ap length (select-hit p d xs i h e), w .back-left)
 
-      pub filled-pick : p i (getD xs i d) ≡ true → Filled f xs (set out (m + j) (f (getD xs i d))) m k (j + 1) (i + 1)
-      filled-pick e =
+      pub parted-pick : p i (getD xs i d) ≡ true → Parted f xs (set out (m + j) (f (getD xs i d))) m k (j + 1) (i + 1)
+      parted-pick e =
           let y = f (getD xs i d) in
           let hit = select-hit p d xs i h e in
           let miss = select-miss others d xs i h (ap not e) in
@@ -83,9 +112,9 @@ module _ {A : Type 0} (p : ℕ → A → Bool) where
             back-left = omega (arith, ap length hit, w .back-left);
           }
 
-    pub filled-end : (out : List A) (m k j i : ℕ) → length xs ≤ i → Filled f xs out m k j i
+    pub parted-end : (out : List A) (m k j i : ℕ) → length xs ≤ i → Parted f xs out m k j i
         → out ≡ selectAt others 0 xs ++ map f (selectAt p 0 xs)
-    filled-end out m k j i h w =
+    parted-end out m k j i h w =
         let a = select-end others d xs i h in
         let b = select-end p d xs i h in
         let km : k ≡ m = omega (arith, ap length a, w .front-left) in

@@ -1,17 +1,30 @@
--- Who stands in a list that was mapped or selected; a law that holds of each member; whether an element stands in a list.
+-- Who stands in a list: by its place, in a mapped or a selected one; and what holds of each member.
 -- Assumes nothing.
 use mathlib.Core.Path.{_≡_, refl, sym, ap, _∙_, subst}
 use mathlib.Core.Bool.{Bool, true, false, cond}
 use mathlib.Core.Bool as Bool
-use mathlib.Core.List.{List, [], _∷_, _++_, map, List·Memᴰ, List·Memᴰ·head, List·Memᴰ·tail, List·Memᴰ·not-nil, List·Memᴰ·cases-cons}
+use mathlib.Core.List.{List, [], _∷_, map, List·Memᴰ, List·Memᴰ·head, List·Memᴰ·tail, _++_, List·Memᴰ·not-nil, List·Memᴰ·cases-cons}
 use mathlib.Core.Logic.{_⊎_, inl, inr, ⊎-elim}
+use Prim.Native.Nat.{ℕ, zero, suc, _<_}
+use native.Mathlib.Omega.{arith}
+use lib.ListN.{length, getD}
 use Rattle.seq.specs.Lists.{select}
 
-module _ {A B : Type 0} (f : A → B) where
-  pub mem-map : {a : A} {xs : List A} → List·Memᴰ a xs → List·Memᴰ (f a) (map f xs)
-  mem-map (List·Memᴰ·head e) = List·Memᴰ·head (ap f e)
-  mem-map (List·Memᴰ·tail m) = List·Memᴰ·tail (mem-map m)
+-- ---- elements by their places: of a mapped list, whatever stands for one past the end; and each is a member
 
+pub map-at : {A B : Type 0} (f : A → B) (xs : List A) (i : ℕ) (d : A) (e : B) → i < length xs → getD (map f xs) i e ≡ f (getD xs i d)
+map-at f [] i d e h = absurd (omega arith)
+map-at f (x ∷ xs) zero d e h = refl
+map-at f (x ∷ xs) (suc i) d e h = map-at f xs i d e (omega arith)
+
+pub mem-at : {A : Type 0} (xs : List A) (i : ℕ) (d : A) → i < length xs → List·Memᴰ (getD xs i d) xs
+mem-at [] i d h = absurd (omega arith)
+mem-at (x ∷ xs) zero d h = List·Memᴰ·head refl
+mem-at (x ∷ xs) (suc i) d h = List·Memᴰ·tail (mem-at xs i d (omega arith))
+
+-- ---- who stands in a list that was mapped or selected; a law that holds of each member; whether an element stands in a list
+
+module _ {A B : Type 0} (f : A → B) where
   -- what stands in a mapped list comes from a member
   pub mem-unmap : {b : B} (xs : List A) → List·Memᴰ b (map f xs) → (a : A) × List·Memᴰ a xs × (b ≡ f a)
   mem-unmap [] m = absurd (List·Memᴰ·not-nil m)

@@ -8,13 +8,14 @@ use native.Mathlib.Omega.{arith}
 use lib.Dec.{eqb}
 use lib.ListN.{length}
 use borrow.Author.Tests.{leb-true, eqb-true}
-use Rattle.seq.specs.Lists.{all}
-use Rattle.seq.specs.All.{and-left, and-right}
-use Rattle.seq.specs.Rows.{Stands, stands-one, stands-then, stands-whole, write-row}
-use Rattle.seq.specs.Fills.{test-at}
+use Rattle.seq.specs.Lists.{allOf}
+use Rattle.seq.proofs.Tests.{and-left, and-right}
+use Rattle.seq.proofs.Rows.{Stands, stands-one, stands-then, stands-whole, write-row, test-at}
 use Rattle.def.specs.State.{slots, listPlaces}
-use Rattle.def.specs.Word.{wordBytes, twosComplement, signedOf, bytes-of-word, complement-of-signed}
+use Rattle.def.specs.Word.{wordBytes, twosComplement, signedOf}
+use Rattle.def.proofs.WordLaws.{bytes-of-word, complement-of-signed}
 use Rattle.image.specs.Image.{slotWidth, refpWidth, leasePlace, scalarsPlace, refpPlace, pocPlace, imageLength, flagByte, listBytes, slotBytes, scalarBytes, pmBytes, refpBytes, pocBytes, imageBytes, byteAt, Bytes, flagAt, wordAt, rowAt, listAt, slotAt, pmOf, refpAt, refpOf, pocOf, isFlag, slotFlags, isImage}
+use Rattle.image.specs.Claims.{BytesKept}
 
 flag-byte : (b : ℕ) → b ≤ 1 → flagByte (eqb b 1) ≡ b
 flag-byte zero h = refl
@@ -27,20 +28,20 @@ module _ (bs : List ℕ) where
   long = eqb (length bs) imageLength
 
   abbrev in-slots : Bool
-  in-slots = all (slotFlags bs) (rowAt (λ i. i) slotWidth 0 (slots + 1))
+  in-slots = allOf (slotFlags bs) (rowAt (λ i. i) slotWidth 0 (slots + 1))
 
   abbrev in-lists : Bool
-  in-lists = all (isFlag bs) (rowAt (λ i. i) refpWidth refpPlace (2 * listPlaces))
+  in-lists = allOf (isFlag bs) (rowAt (λ i. i) refpWidth refpPlace (2 * listPlaces))
 
   pub image-long : isImage bs ≡ true → length bs ≡ imageLength
   unfolding isImage
   image-long e = eqb-true (length bs) imageLength (and-left long (in-slots && in-lists) e)
 
-  slots-flagged : isImage bs ≡ true → all (slotFlags bs) (rowAt (λ i. i) slotWidth 0 (slots + 1)) ≡ true
+  slots-flagged : isImage bs ≡ true → allOf (slotFlags bs) (rowAt (λ i. i) slotWidth 0 (slots + 1)) ≡ true
   unfolding isImage
   slots-flagged e = and-left in-slots in-lists (and-right long (in-slots && in-lists) e)
 
-  refps-flagged : isImage bs ≡ true → all (isFlag bs) (rowAt (λ i. i) refpWidth refpPlace (2 * listPlaces)) ≡ true
+  refps-flagged : isImage bs ≡ true → allOf (isFlag bs) (rowAt (λ i. i) refpWidth refpPlace (2 * listPlaces)) ≡ true
   unfolding isImage
   refps-flagged e = and-right in-slots in-lists (and-right long (in-slots && in-lists) e)
 
@@ -124,11 +125,14 @@ module _ (bs : List ℕ) (bytes : Bytes bs) where
   poc-stands h = stands-then (signed-stands pocPlace (omega arith)) (stands-then (word-stands (pocPlace + 4) (omega arith)) (signed-stands (pocPlace + 8) (omega arith)))
 
   -- Bytes to contents and back.
-  pub bytes-kept : isImage bs ≡ true → imageBytes (pmOf bs) (refpOf bs) (pocOf bs) ≡ bs
+  image-kept : isImage bs ≡ true → imageBytes (pmOf bs) (refpOf bs) (pocOf bs) ≡ bs
   unfolding imageBytes
-  bytes-kept e =
+  image-kept e =
       let size = image-long bs e in
       stands-whole
       (stands-then (pm-stands (test-at (slotFlags bs) (λ k. 0 + slotWidth * k) (slots + 1) (slots-flagged bs e)) (omega arith))
       (stands-then (refps-stand (test-at (isFlag bs) (λ k. refpPlace + refpWidth * k) (2 * listPlaces) (refps-flagged bs e)) (omega arith)) (poc-stands (omega arith))))
       size
+
+pub bytes-kept : BytesKept
+bytes-kept = λ bs bytes e. image-kept bs bytes e

@@ -9,11 +9,9 @@ use native.Mathlib.Omega.{arith}
 use lib.Dec.{leb}
 use lib.ListN.{length, getD}
 use borrow.Author.Tests.{eq-eqb}
-use Rattle.seq.specs.Numbers.{lt-or-ge}
-use Rattle.seq.specs.All.{and-both}
-use Rattle.seq.specs.Members.{holds-head, holds-tail}
-use Rattle.seq.specs.Rows.{Stands, stands-left, stands-right, stands-at, stands-in-row}
-use Rattle.seq.specs.Fills.{tests-hold}
+use Rattle.seq.proofs.Tests.{lt-or-ge, and-both}
+use Rattle.seq.proofs.Members.{holds-head, holds-tail}
+use Rattle.seq.proofs.Rows.{Stands, stands-left, stands-right, stands-at, stands-in-row, tests-hold}
 use Rattle.def.specs.State.{slots, listPlaces, noSlot, noRefP}
 use Rattle.def.specs.Word.{wordBytes, twosComplement}
 use Rattle.def.specs.declared.Slot.{Slot}
@@ -22,7 +20,9 @@ use Rattle.def.specs.declared.EvcRefP.{EvcRefP}
 use Rattle.def.specs.declared.EvcPoc.{EvcPoc}
 use Rattle.image.specs.Image.{slotWidth, refpWidth, leasePlace, refpPlace, imageLength, flagByte, listBytes, slotBytes, scalarBytes, pmBytes, refpBytes, pocBytes, imageBytes, byteAt, Bytes, isFlag, slotFlags, isImage}
 use Rattle.image.specs.Fits.{SlotFits, PmFits, RefPFits, ContentsFit}
-use Rattle.image.specs.ContentsKept.{slot-width, refp-width, row-width, first, wide, state-stands, lists-stand}
+use Rattle.image.proofs.ContentsKept.{slot-width, refp-width, row-width, first, wide, state-stands, lists-stand}
+use Rattle.image.specs.Claims.{ContentsImage}
+use Rattle.image.specs.Claims.{ContentsBytes}
 
 -- ---- each is below 256
 
@@ -99,9 +99,9 @@ module _ (pm : EvcPm) (refp : List EvcRefP) (poc : EvcPoc) (f : ContentsFit pm r
   abbrev image : List ℕ
   image = imageBytes pm refp poc
 
-  pub contents-bytes : Bytes (imageBytes pm refp poc)
+  all-bytes : Bytes (imageBytes pm refp poc)
   unfolding imageBytes pmBytes pocBytes
-  contents-bytes =
+  all-bytes =
       then (pmBytes pm)
       (then (flatMap slotBytes (pm .pic)) (row slotBytes (pm .pic) (λ s m. slot-bytes s (f .state .each s m)))
       (then (slotBytes (pm .«pic_lease»)) (slot-bytes (pm .«pic_lease») (f .state .lease)) (scalar-bytes pm (f .state))))
@@ -149,9 +149,15 @@ module _ (pm : EvcPm) (refp : List EvcRefP) (poc : EvcPoc) (f : ContentsFit pm r
       (subst (λ (n : ℕ). Stands image refpPlace (flatMap refpBytes refp) (refpWidth * n)) (sym (f .places)) (lists-stand pm refp poc f))
       k (let e = f .places in omega arith))
 
-  pub contents-image : isImage (imageBytes pm refp poc) ≡ true
+  is-image : isImage (imageBytes pm refp poc) ≡ true
   unfolding isImage
-  contents-image =
+  is-image =
       and-both (eq-eqb (length image) imageLength (wide pm refp poc f))
       (and-both (tests-hold (slotFlags image) (λ k. 0 + slotWidth * k) (slots + 1) in-slots)
       (tests-hold (isFlag image) (λ k. refpPlace + refpWidth * k) (2 * listPlaces) in-lists))
+
+pub contents-image : ContentsImage
+contents-image = λ pm refp poc f. is-image pm refp poc f
+
+pub contents-bytes : ContentsBytes
+contents-bytes = λ pm refp poc f. all-bytes pm refp poc f

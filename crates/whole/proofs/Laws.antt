@@ -1,4 +1,4 @@
--- What a whole state is, rule by rule, and what follows: how many pictures there can be, and that a free buffer number is left.
+-- What follows from the rules of a whole state: how many pictures there can be, and that a free buffer number is left.
 -- Assumes nothing.
 use mathlib.Core.Path.{_≡_, refl, ap, _∙_}
 use mathlib.Core.Bool.{Bool, true, false, not, _&&_, _||_}
@@ -9,37 +9,16 @@ use native.Mathlib.Omega.{arith}
 use lib.Dec.{leb, ltb, eqb}
 use lib.ListN.{length, getD, length-map}
 use borrow.Author.Tests.{leb-true, le-leb, ltb-true, lt-ltb, eqb-true, eq-eqb, not-true, not-false}
-use Rattle.seq.specs.Lists.{all, any, count, select, allDiffer, Distinct, smallestNotIn}
-use Rattle.seq.specs.Counts.{count-yes, length-select}
-use Rattle.seq.specs.Distinct.{pigeonhole}
-use Rattle.seq.specs.All.{and-left, and-right, and-both, all-at, all-true, all-holds, any-of-few, count-append, count-le}
-use Rattle.seq.specs.Smallest.{differ-distinct, distinct-differ, smallest-le, smallest}
+use Rattle.seq.specs.Lists.{allOf, anyOf, countIf, select, allDiffer, smallestNotIn}
+use Rattle.seq.proofs.Tests.{count-yes, length-select, and-left, and-right, and-both, all-at, all-true, all-holds, any-of-few, count-append, count-le}
+use Rattle.seq.proofs.Distinct.{pigeonhole}
+use Rattle.seq.proofs.Smallest.{differ-distinct, distinct-differ, smallest-le, smallest}
 use Rattle.def.specs.declared.Slot.{Slot}
 use Rattle.def.specs.declared.EvcPm.{EvcPm}
-use Rattle.def.specs.State.{slots, listPlaces, highestPoc, isPresent, isMarked, isEmpty, bufferOf, newPm}
+use Rattle.def.specs.State.{slots, listPlaces, highestPoc, isPresent, isMarked, isEmpty, bufferOf}
+use Rattle.whole.specs.Rules.{Zero, Whole}
+use Rattle.whole.specs.Claims.{WholeIsRules, NewWhole, PicturesAtMost, LeasedEmptySlot, FreeBufferBelow}
 use Rattle.whole.specs.Whole.{whole, rules, leases, places, buffersOf, heldBuffers, zeroIfEmpty, pocFits}
-
--- An all-zero record, but for the flag that says it is there.
-pub record Zero (s : Slot) : Type 0 where
-  pub buf-zero : s .buf ≡ 0
-  pub poc-zero : s .pic .poc ≡ 0
-  pub not-ref : s .pic .«is_ref» ≡ false
-  pub not-wanted : s .pic .«need_for_out» ≡ false
-  pub layer-zero : s .pic .«temporal_id» ≡ 0
-  pub numbers-zero : (n : ℕ) → List·Memᴰ n (s .pic .«list_poc») → n ≡ 0
-
--- The rules of document 01, each as a fact.
-pub record Whole (pm : EvcPm) : Type 0 where
-  pub store-size : pm .«max_pb_size» ≤ slots
-  pub reference-limit : pm .«max_num_ref_pics» ≤ listPlaces
-  pub forward-count : pm .«num_refp_0» ≤ listPlaces
-  pub backward-count : pm .«num_refp_1» ≤ listPlaces
-  pub size-matches : pm .«cur_pb_size» ≡ count isPresent (pm .pic)
-  pub references-match : pm .«cur_num_ref_pics» ≡ count isMarked (pm .pic)
-  pub empty-zero : (s : Slot) → List·Memᴰ s (places pm) → s .present ≡ false → Zero s
-  pub buffers-below : (b : ℕ) → List·Memᴰ b (heldBuffers pm) → b < slots
-  pub buffers-differ : Distinct (heldBuffers pm)
-  pub numbers-fit : (s : Slot) → List·Memᴰ s (places pm) → s .present ≡ true → s .pic .poc ≤ highestPoc
 
 -- ---- one slot
 
@@ -65,7 +44,7 @@ pub zero-from : (s : Slot) → zeroIfEmpty s ≡ true → s .present ≡ false �
 zero-from s e absent =
     let t =
     six (eqb (s .buf) 0) (eqb (s .pic .poc) 0) (not (s .pic .«is_ref»)) (not (s .pic .«need_for_out»)) (eqb (s .pic .«temporal_id») 0)
-    (all (λ n. eqb n 0) (s .pic .«list_poc»)) (or-rest (s .present) _ e absent) in
+    (allOf (λ n. eqb n 0) (s .pic .«list_poc»)) (or-rest (s .present) _ e absent) in
     record {
       buf-zero = eqb-true (s .buf) 0 (t .0);
       poc-zero = eqb-true (s .pic .poc) 0 (t .1);
@@ -127,29 +106,31 @@ rules-whole pm w =
     (and-both (distinct-differ (heldBuffers pm) (w .buffers-differ))
     (and-both (all-holds pocFits (places pm) (λ s m. fits-to s (w .numbers-fit s m))) refl))))))))
 
--- The new state, all zero and empty.
-pub new-whole : whole newPm ≡ true
-unfolding whole all any count select allDiffer
+pub whole-is-rules : WholeIsRules
+whole-is-rules pm = (whole-rules pm, rules-whole pm)
+
+pub new-whole : NewWhole
+unfolding whole allOf anyOf countIf select allDiffer
 new-whole = refl
 
 -- ---- how many pictures there can be
 
-pub buffers-count : (ss : List Slot) → length (buffersOf ss) ≡ count isPresent ss
+pub buffers-count : (ss : List Slot) → length (buffersOf ss) ≡ countIf isPresent ss
 buffers-count ss = length-map (select isPresent ss) bufferOf ∙ length-select isPresent ss
 
 -- Slots and leases hold at most 27 pictures, since their buffer numbers differ.
-held-count : (pm : EvcPm) → length (heldBuffers pm) ≡ count isPresent (pm .pic) + count isPresent (leases pm)
+held-count : (pm : EvcPm) → length (heldBuffers pm) ≡ countIf isPresent (pm .pic) + countIf isPresent (leases pm)
 held-count pm = buffers-count (places pm) ∙ count-append isPresent (pm .pic) (leases pm)
 
-pub pictures-at-most : (pm : EvcPm) → Whole pm → count isPresent (pm .pic) + count isPresent (leases pm) ≤ slots
+pub pictures-at-most : PicturesAtMost
 pictures-at-most pm w = let h = pigeonhole slots (heldBuffers pm) (w .buffers-differ) (w .buffers-below) in let e = held-count pm in omega arith
 
 -- With a picture leased the slots hold at most 26,
-pub leased-occupied : (pm : EvcPm) → Whole pm → pm .«pic_lease» .present ≡ true → count isPresent (pm .pic) < slots
+pub leased-occupied : (pm : EvcPm) → Whole pm → pm .«pic_lease» .present ≡ true → countIf isPresent (pm .pic) < slots
 leased-occupied pm w e = let h = pictures-at-most pm w in let l = count-yes isPresent (pm .«pic_lease») [] e in omega arith
 
 -- so an empty slot is left.
-pub leased-empty-slot : (pm : EvcPm) → Whole pm → length (pm .pic) ≡ slots → pm .«pic_lease» .present ≡ true → any isEmpty (pm .pic) ≡ true
+pub leased-empty-slot : LeasedEmptySlot
 leased-empty-slot pm w n e =
     any-of-few isEmpty (pm .pic)
     (let h = leased-occupied pm w e in omega (arith, count-le (λ s. not (isEmpty s)) isPresent there (pm .pic)))
@@ -158,13 +139,13 @@ leased-empty-slot pm w n e =
     there s t = not-false (s .present) (not-true (isEmpty s) t)
 
 -- A marked slot is occupied.
-pub marked-occupied : (pics : List Slot) → count isMarked pics ≤ count isPresent pics
+pub marked-occupied : (pics : List Slot) → countIf isMarked pics ≤ countIf isPresent pics
 marked-occupied pics = count-le isMarked isPresent (λ s e. and-left (s .present) (s .pic .«is_ref») e) pics
 
 -- ---- a free buffer number
 
 -- Where fewer than 27 slots are occupied the smallest number that no slot holds is a buffer number.
-pub free-buffer-below : (pm : EvcPm) → count isPresent (pm .pic) < slots → smallestNotIn (buffersOf (pm .pic)) < slots
+pub free-buffer-below : FreeBufferBelow
 free-buffer-below pm h = let e = buffers-count (pm .pic) in let l = smallest-le (buffersOf (pm .pic)) in omega arith
 
 pub free-buffer-not-held : (pm : EvcPm) → List·Memᴰ (smallestNotIn (buffersOf (pm .pic))) (buffersOf (pm .pic)) → ⊥

@@ -3,11 +3,12 @@
 use Prim.Native.Nat.{ℕ, _+_, _*_}
 use mathlib.Core.List.{List}
 use native.Mathlib.Omega.{arith}
-use Rattle.seq.specs.Fills.{length-entries, entries-each}
+use Rattle.seq.proofs.Rows.{length-entries, entries-each}
 use Rattle.def.specs.State.{slots, listPlaces}
-use Rattle.def.specs.Word.{signed-fits}
+use Rattle.def.proofs.WordLaws.{signed-fits}
 use Rattle.image.specs.Image.{wordWidth, slotWidth, refpWidth, leasePlace, scalarsPlace, refpPlace, pocPlace, Bytes, wordAt, listAt, slotAt, pmOf, refpAt, refpOf, pocOf}
 use Rattle.image.specs.Fits.{FitsWord, ListFits, SlotFits, PmFits, RefPFits, PocFits, ContentsFit}
+use Rattle.image.specs.Claims.{BytesFit}
 
 module _ {bs : List ℕ} (bytes : Bytes bs) where
   word-fits : (i : ℕ) → FitsWord (wordAt bs i)
@@ -53,11 +54,14 @@ module _ {bs : List ℕ} (bytes : Bytes bs) where
     offset = signed-fits (wordAt bs (pocPlace + 8)) (word-fits (pocPlace + 8));
   }
 
-  pub bytes-fit : ContentsFit (pmOf bs) (refpOf bs) (pocOf bs)
+  contents-fit : ContentsFit (pmOf bs) (refpOf bs) (pocOf bs)
   unfolding refpOf
-  bytes-fit = record {
+  contents-fit = record {
     state = pm-fits;
     places = length-entries (λ k. refpAt bs (refpPlace + refpWidth * k)) (2 * listPlaces);
     entry = entries-each RefPFits (λ k. refpAt bs (refpPlace + refpWidth * k)) (2 * listPlaces) (λ k h. refp-fits (refpPlace + refpWidth * k));
     kept = poc-fits;
   }
+
+pub bytes-fit : BytesFit
+bytes-fit = λ bs bytes. contents-fit bytes

@@ -8,7 +8,8 @@ use native.Mathlib.Numerals.{add-one}
 use native.Mathlib.Omega.{arith}
 use lib.ListN.{length, getD, take, drop, set, length-append, drop-of-length-le}
 use lib.Seq.{take-suc, take-all, sets, sets-eq, length-sets}
-use Rattle.seq.specs.Rows.{flatMap-append}
+use Rattle.seq.specs.Lists.{Stored}
+use Rattle.seq.proofs.Rows.{flatMap-append}
 
 module _ {B : Type 0} where
   pub sets-append : (bs : List B) (i : ℕ) (xs ys : List B) → sets bs i (xs ++ ys) ≡ sets (sets bs i xs) (i + length xs) ys
@@ -16,11 +17,6 @@ module _ {B : Type 0} where
   sets-append bs i (x ∷ xs) ys =
       sets-append (set bs i x) (suc i) xs ys
       ∙ ap (λ (k : ℕ). sets (sets bs i (x ∷ xs)) k ys) (suc-add i (length xs) ∙ sym (add-suc i (length xs)))
-
-  -- after holds what bs held, but for ys, of n elements, which stands from place i on
-  pub record Stored (bs : List B) (i : ℕ) (ys : List B) (n : ℕ) (after : List B) : Type 0 where
-    pub holds : after ≡ sets bs i ys
-    pub wide : length ys ≡ n
 
   pub stored-one : {bs : List B} {i : ℕ} {x : B} (y : B) → x ≡ y → Stored bs i (y ∷ []) 1 (set bs i x)
   stored-one {bs} {i} y e = record { holds = ap (set bs i) e; wide = refl }

@@ -10,15 +10,17 @@ use lib.Dec.{eqb}
 use lib.IntN.{ℤ}
 use lib.Signed.{mag}
 use lib.ListN.{length, length-append}
-use Rattle.seq.specs.Rows.{Stands, stands-left, stands-right, stands-at, stands-self, length-row, read-row}
+use Rattle.seq.proofs.Rows.{Stands, stands-left, stands-right, stands-at, stands-self, length-row, read-row}
 use Rattle.def.specs.State.{slots, listPlaces, noSlot, noRefP}
-use Rattle.def.specs.Word.{wordBytes, twosComplement, signedOf, word-of-bytes, signed-of-complement, complement-fits}
+use Rattle.def.specs.Word.{wordBytes, twosComplement, signedOf}
+use Rattle.def.proofs.WordLaws.{word-of-bytes, signed-of-complement, complement-fits}
 use Rattle.def.specs.declared.Slot.{Slot}
 use Rattle.def.specs.declared.EvcPm.{EvcPm}
 use Rattle.def.specs.declared.EvcRefP.{EvcRefP}
 use Rattle.def.specs.declared.EvcPoc.{EvcPoc}
 use Rattle.image.specs.Image.{wordWidth, slotWidth, refpWidth, leasePlace, scalarsPlace, refpPlace, pocPlace, imageLength, flagByte, listBytes, slotBytes, scalarBytes, pmBytes, refpBytes, pocBytes, imageBytes, byteAt, flagAt, wordAt, rowAt, listAt, slotAt, pmOf, refpAt, refpOf, pocOf}
 use Rattle.image.specs.Fits.{ListFits, SlotFits, PmFits, RefPFits, PocFits, ContentsFit}
+use Rattle.image.specs.Claims.{ContentsKept}
 
 flag-read : (b : Bool) {n : ℕ} → n ≡ flagByte b → eqb n 1 ≡ b
 flag-read true e = ap (λ (n : ℕ). eqb n 1) e
@@ -170,17 +172,20 @@ module _ (pm : EvcPm) (refp : List EvcRefP) (poc : EvcPoc) (f : ContentsFit pm r
   all-stands = subst (Stands image 0 image) wide (stands-self image)
 
   pub state-stands : Stands image 0 (pmBytes pm) refpPlace
-  state-stands = stands-left state (lists ++ pocBytes poc) refpPlace 3792 (pm-width pm (f .state)) all-stands
+  state-stands = stands-left state (lists ++ pocBytes poc) refpPlace (refpWidth * (2 * listPlaces) + 12) (pm-width pm (f .state)) all-stands
 
-  behind : Stands image refpPlace (lists ++ pocBytes poc) 3792
-  behind = stands-right state (lists ++ pocBytes poc) refpPlace 3792 (pm-width pm (f .state)) all-stands
+  behind : Stands image refpPlace (lists ++ pocBytes poc) (refpWidth * (2 * listPlaces) + 12)
+  behind = stands-right state (lists ++ pocBytes poc) refpPlace (refpWidth * (2 * listPlaces) + 12) (pm-width pm (f .state)) all-stands
 
   pub lists-stand : Stands image refpPlace (flatMap refpBytes refp) (refpWidth * (2 * listPlaces))
-  lists-stand = stands-left lists (pocBytes poc) 3780 12 (refps-width refp (f .places) (f .entry)) behind
+  lists-stand = stands-left lists (pocBytes poc) (refpWidth * (2 * listPlaces)) 12 (refps-width refp (f .places) (f .entry)) behind
 
   record-stands : Stands image pocPlace (pocBytes poc) 12
-  record-stands = stands-right lists (pocBytes poc) 3780 12 (refps-width refp (f .places) (f .entry)) behind
+  record-stands = stands-right lists (pocBytes poc) (refpWidth * (2 * listPlaces)) 12 (refps-width refp (f .places) (f .entry)) behind
 
   -- Contents to bytes and back.
-  pub contents-kept : (pmOf (imageBytes pm refp poc) ≡ pm) × (refpOf (imageBytes pm refp poc) ≡ refp) × (pocOf (imageBytes pm refp poc) ≡ poc)
-  contents-kept = (pm-read pm (f .state) state-stands, refps-read refp (f .places) (f .entry) lists-stand, poc-read poc (f .kept) record-stands)
+  all-read : (pmOf (imageBytes pm refp poc) ≡ pm) × (refpOf (imageBytes pm refp poc) ≡ refp) × (pocOf (imageBytes pm refp poc) ≡ poc)
+  all-read = (pm-read pm (f .state) state-stands, refps-read refp (f .places) (f .entry) lists-stand, poc-read poc (f .kept) record-stands)
+
+pub contents-kept : ContentsKept
+contents-kept = λ pm refp poc f. all-read pm refp poc f

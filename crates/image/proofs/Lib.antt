@@ -1,0 +1,4 @@
+pub mod BytesKept
+pub mod BytesFit
+pub mod ContentsKept
+pub mod ContentsImage
