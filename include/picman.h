@@ -53,6 +53,7 @@ enum picman_status {
 #define PICMAN_PLAN 7
 #define PICMAN_READ 15
 #define PICMAN_LONGEST_LINE 27
+#define PICMAN_REASON 2
 
 /* ---- 1. The running machine ------------------------------------------------------------------------------------------ */
 
@@ -114,8 +115,21 @@ typedef uint64_t picman_answer;
 #define PICMAN_SLICE_P 2
 #define PICMAN_SLICE_B 3
 
+/* Why a picture is or is not in the forward list: the first byte of a reason. The second is the place of a picture that is
+ * taken, counted from 0, and else 0. The earliest of the row that holds is given, and slice I alone gets the last. */
+enum picman_reason {
+    PICMAN_TAKEN = 0,
+    PICMAN_NOT_MARKED = 1,
+    PICMAN_LIST_FULL = 2,        /* before the picture's turn */
+    PICMAN_OLD = 3,
+    PICMAN_CURRENT_NUMBER = 4,   /* the same number as the current picture's */
+    PICMAN_OTHER_SIDE = 5,       /* the slice type does not take that side */
+    PICMAN_LAYER_OVER_BOUND = 6, /* at the picture's turn */
+    PICMAN_NO_LIST_ASKED = 7     /* slice I */
+};
+
 /* What the library defines: each array is a pointer and its length, 27, 1,533 and 13 (21 for list_poc, 8 for an answer's
- * bytes, 6,407 for an image). Where a length is another they give 18 (as an answer: status 18, no buffer, value 0) and write
+ * bytes, 2 for a reason, 6,407 for an image). Where a length is another they give 18 (as an answer: status 18, no buffer, value 0) and write
  * nothing at all, an answer's bytes and an image neither. The functions below this block pass the lengths. */
 uint8_t picman_machine_new(uint64_t *keys, size_t keys_len, uint32_t *rows, size_t rows_len, uint32_t *registers,
                            size_t registers_len);
@@ -142,6 +156,9 @@ uint8_t picman_machine_load(uint64_t *keys, size_t keys_len, uint32_t *rows, siz
                             size_t registers_len, const uint8_t *image, size_t image_len);
 uint8_t picman_machine_save(const uint64_t *keys, size_t keys_len, const uint32_t *rows, size_t rows_len,
                             const uint32_t *registers, size_t registers_len, uint8_t *image, size_t image_len);
+uint8_t picman_machine_why(const uint64_t *keys, size_t keys_len, const uint32_t *rows, size_t rows_len,
+                           const uint32_t *registers, size_t registers_len, const uint8_t *call, size_t call_len,
+                           uint8_t slot, uint8_t *reason, size_t reason_len);
 
 #define PICMAN_PARTS(m) \
     (m)->keys, PICMAN_SLOTS, &(m)->rows[0][0], PICMAN_ROWS *PICMAN_PLACES, (m)->registers, PICMAN_REGISTERS
@@ -196,6 +213,14 @@ static inline uint8_t picman_call_bytes(picman_machine *m, const uint8_t *call, 
     return picman_machine_call(PICMAN_PARTS(m), call, call_len, answer, PICMAN_ANSWER);
 }
 
+/* Why the picture of a slot is or is not in the forward list of a list call, given by the bytes of its line, check byte too,
+ * not in hex: 0 and the two bytes of the reason. The list call's refusals come first, then 14 where the slot is empty or
+ * missing; 18 where the bytes are no list call. A refusal writes nothing, and the machine never changes. */
+static inline uint8_t picman_why_bytes(const picman_machine *m, const uint8_t *call, size_t call_len, uint8_t slot,
+                                       uint8_t reason[PICMAN_REASON]) {
+    return picman_machine_why(PICMAN_PARTS(m), call, call_len, slot, reason, PICMAN_REASON);
+}
+
 /* The machine of an image: 0. Where a flag byte of the image is neither 0 nor 1 it gives 18, and where the image's state is
  * not whole 7; the machine then stays as it was. Rows of buffers that no picture of the image is in keep what they held. */
 static inline uint8_t picman_load(picman_machine *m, const uint8_t image[PICMAN_IMAGE]) {
@@ -215,11 +240,13 @@ static inline uint8_t picman_save(const picman_machine *m, uint8_t image[PICMAN_
  * number, poc 4, list_poc 21 x 4); poc_val 4, prev_poc_val 4, prev_doc_offset 4. Unlike the running machine it can also say
  * states that are not whole.
  *
- * picman_new, picman_call and picman_copy_refp are what the library defines; picman_image_* pass the lengths. Calls on an
+ * picman_new, picman_call, picman_copy_refp and picman_why are what the library defines; picman_image_* pass the lengths. Calls on an
  * image convert it both ways: they are for comparison, not for speed. */
 uint8_t picman_new(uint8_t *image, size_t len);
 uint8_t picman_call(uint8_t *image, size_t len, const uint8_t *call, size_t call_len, uint8_t *answer, size_t answer_len);
 uint8_t picman_copy_refp(uint8_t *image, size_t len, uint64_t cnt, uint64_t lidx, const uint8_t *entry, size_t entry_len);
+uint8_t picman_why(const uint8_t *image, size_t len, const uint8_t *call, size_t call_len, uint8_t slot, uint8_t *reason,
+                   size_t reason_len);
 
 /* Writes the new machine, whatever the image held: 0. A wrong length gives 18 and nothing is written. */
 static inline uint8_t picman_image_new(uint8_t image[PICMAN_IMAGE]) { return picman_new(image, PICMAN_IMAGE); }
@@ -237,6 +264,13 @@ static inline uint8_t picman_image_call(uint8_t image[PICMAN_IMAGE], const uint8
 static inline uint8_t picman_image_copy_refp(uint8_t image[PICMAN_IMAGE], uint64_t cnt, uint64_t lidx,
                                              const uint8_t entry[PICMAN_ENTRY]) {
     return picman_copy_refp(image, PICMAN_IMAGE, cnt, lidx, entry, PICMAN_ENTRY);
+}
+
+/* As picman_why_bytes. 18 where a flag byte of the image is neither 0 nor 1 or the bytes are no list call (or a length is
+ * wrong, in picman_why): nothing is written. The image never changes. */
+static inline uint8_t picman_image_why(const uint8_t image[PICMAN_IMAGE], const uint8_t *call, size_t call_len, uint8_t slot,
+                                       uint8_t reason[PICMAN_REASON]) {
+    return picman_why(image, PICMAN_IMAGE, call, call_len, slot, reason, PICMAN_REASON);
 }
 
 /* ---- 3. The depth tables and the group planner ------------------------------------------------------------------------ */

@@ -55,6 +55,7 @@ pub mod lines;
 pub mod original;
 pub mod ours;
 pub mod ours_plan;
+pub mod ours_why;
 pub mod papers;
 pub mod rng;
 pub mod running;

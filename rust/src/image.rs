@@ -1,6 +1,7 @@
 //! A machine as 6,407 bytes, big-endian: the form for exchange and comparison. Each function gives a status; a call that is
 //! turned down, with a refusal's number, leaves the image as it was.
 
+use crate::why::{self, Reason};
 use crate::{ANSWER, ENTRY, IMAGE};
 
 mod library {
@@ -49,4 +50,11 @@ pub fn call(image: &mut [u8; IMAGE], call: &[u8], answer: &mut [u8; ANSWER]) -> 
 #[must_use]
 pub fn copy_refp(image: &mut [u8; IMAGE], cnt: u64, lidx: u64, entry: &[u8; ENTRY]) -> u8 {
     unsafe { library::picman_copy_refp(image.as_mut_ptr(), IMAGE, cnt, lidx, entry.as_ptr(), ENTRY) }
+}
+
+/// Why the picture of a slot is or is not in the forward list of a list call, given by the bytes of its line, check byte too,
+/// not in hex. The list call's refusals come first, then 14 where the slot is empty or missing; 18 where a flag byte of the
+/// image is neither 0 nor 1 or the bytes are no list call.
+pub fn why(image: &[u8; IMAGE], call: &[u8], slot: u8) -> Result<Reason, u8> {
+    why::of_image(image, call, slot)
 }

@@ -9,11 +9,13 @@ mod lines;
 mod machine;
 mod plan;
 mod tables;
+mod why;
 
 pub use lines::{answers, answers_from, write_call, Answers, Read, LONGEST_LINE, NO_ROOM};
 pub use machine::{Answer, Entry, Machine, IDR, NO_PICTURE, REFERENCE, SLICE_B, SLICE_I, SLICE_P, WANTED};
 pub use plan::{plan, PlanCall, PLAN, RECORD};
 pub use tables::{slice_depth, slice_depth_p};
+pub use why::Reason;
 
 /// Bytes of an image, of an answer line and of an entry of an image.
 pub const IMAGE: usize = 6407;

@@ -1,5 +1,6 @@
 //! The running machine.
 
+use crate::why::{self, Reason};
 use crate::{ANSWER, IMAGE};
 
 const SLOTS: usize = 27;
@@ -268,6 +269,11 @@ impl Machine {
         let status = ask!(self.picman_machine_call(call.as_ptr(), call.len(), answer.as_mut_ptr(), ANSWER));
         assert_eq!(status, answer[1], "the lengths fit");
         answer
+    }
+
+    /// Why the picture of a slot is or is not in the forward list of a list call, as [`crate::image::why`].
+    pub fn why(&self, call: &[u8], slot: u8) -> Result<Reason, u8> {
+        why::of_arrays(&self.keys, self.rows.as_flattened(), &self.registers, call, slot)
     }
 
     /// The machine of an image; refusal 18 where a flag byte of it is neither 0 nor 1, 7 where its state is not whole.

@@ -1,22 +1,28 @@
-//! The C example, compiled by the system's C compiler and run.
+//! The C programs, compiled by the system's C compiler and run.
 
 use std::path::PathBuf;
 use std::process::Command;
 
-#[test]
-fn c_example() {
+/// The lines that a program of this folder prints.
+fn printed(name: &str) -> Vec<String> {
     let here = PathBuf::from(env!("CARGO_MANIFEST_DIR"));
-    let program = PathBuf::from(env!("CARGO_TARGET_TMPDIR")).join("example");
+    let program = PathBuf::from(env!("CARGO_TARGET_TMPDIR")).join(name);
+    let source = here.join("tests").join(name).with_extension("c");
     let compiled = Command::new(std::env::var_os("CC").unwrap_or("cc".into()))
         .args(["-std=c99", "-Wall", "-Wextra", "-Werror", "-pedantic", "-I"])
-        .args([here.join("../include"), here.join("tests/example.c"), env!("PICMAN_LIBRARY").into()])
+        .args([here.join("../include"), source, env!("PICMAN_LIBRARY").into()])
         .arg("-o")
         .arg(&program)
         .status()
         .expect("a C compiler");
     assert!(compiled.success());
-    let ran = Command::new(&program).output().expect("the example runs");
+    let ran = Command::new(&program).output().expect("the program runs");
     assert!(ran.status.success());
+    String::from_utf8_lossy(&ran.stdout).lines().map(str::to_string).collect()
+}
+
+#[test]
+fn c_example() {
     let answers = [
         "0100ff0000000000",
         "02000000000000fe",
@@ -25,5 +31,11 @@ fn c_example() {
         "0441ff00000000bc",
         "0012ff00000000ef",
     ];
-    assert_eq!(String::from_utf8_lossy(&ran.stdout).lines().collect::<Vec<_>>(), answers);
+    assert_eq!(printed("example"), answers);
+}
+
+/// Slot, status, reason and place: taken at 0; on the other side; no such place.
+#[test]
+fn c_why() {
+    assert_eq!(printed("why"), ["0 0 0 0", "1 0 5 0", "2 14 255 255"]);
 }

@@ -113,7 +113,25 @@ extern "C" {
         image: *mut u8,
         n: usize,
     ) -> u8;
+    fn picman_why(i: *const u8, n: usize, call: *const u8, cn: usize, slot: u8, reason: *mut u8, en: usize) -> u8;
+    fn picman_machine_why(
+        k: *const u64,
+        kn: usize,
+        w: *const u32,
+        wn: usize,
+        r: *const u32,
+        rn: usize,
+        call: *const u8,
+        cn: usize,
+        slot: u8,
+        reason: *mut u8,
+        en: usize,
+    ) -> u8;
 }
+
+/// A list call for slice I, and the bytes of a reason.
+const LISTS: [u8; 13] = [5, 1, 0, 0, 0, 8, 0, 0, 0, 0, 0, 2, 0xf0];
+const REASON: usize = 2;
 
 const GET: [u8; 2] = [2, 0xfe];
 
@@ -247,6 +265,33 @@ fn what_goes_with_a_machine() {
     }
     let before = Arrays::new(27, 1533, 13);
     assert!(arrays.keys == before.keys && arrays.rows == before.rows && arrays.registers == before.registers);
+}
+
+#[test]
+fn reasons() {
+    let image = [0; IMAGE];
+    let mut arrays = Arrays::new(27, 1533, 13);
+    let ((k, kn), (w, wn), (r, rn)) = arrays.parts();
+    let (call, n) = (LISTS.as_ptr(), LISTS.len());
+    for len in [0, 1, 2, 3, 8] {
+        let mut reason = [0xa5; 8];
+        let at = reason.as_mut_ptr();
+        // No slot of the new machine holds a picture.
+        let expected = if len == REASON { 14 } else { BAD };
+        assert_eq!(unsafe { picman_why(image.as_ptr(), IMAGE, call, n, 0, at, len) }, expected, "{len}");
+        assert_eq!(unsafe { picman_machine_why(k, kn, w, wn, r, rn, call, n, 0, at, len) }, expected, "{len}");
+        assert_eq!(reason, [0xa5; 8]);
+    }
+    let mut reason = [0xa5; REASON];
+    let at = reason.as_mut_ptr();
+    for len in [0, 1, IMAGE - 1, IMAGE + 1] {
+        let image = vec![0; len];
+        assert_eq!(unsafe { picman_why(image.as_ptr(), len, call, n, 0, at, REASON) }, BAD);
+    }
+    for (kn, wn, rn) in [(26, 1533, 13), (27, 1532, 13), (27, 1533, 12), (0, 0, 0)] {
+        assert_eq!(unsafe { picman_machine_why(k, kn, w, wn, r, rn, call, n, 0, at, REASON) }, BAD);
+    }
+    assert_eq!(reason, [0xa5; REASON]);
 }
 
 #[test]

@@ -2,7 +2,7 @@
 -- Assumes nothing.
 use mathlib.Core.Path.{_≡_, refl, sym, ap, ap₂, _∙_}
 use mathlib.Core.Bool.{true, false}
-use mathlib.Core.List.{List}
+use mathlib.Core.List.{List, map}
 use Prim.Native.Nat.{ℕ}
 use lib.ListN.{length, length-map}
 use Rattle.def.specs.State.{slots}
@@ -12,6 +12,8 @@ use Rattle.keys.specs.Keys.{slotAt, listsIn, stands, ComesLists}
 use Rattle.whole.specs.Whole.{whole}
 use Rattle.refp.specs.Lists.{listsRefused, lists, listsWhole}
 use Rattle.refp.proofs.ListLaws.{lists-stay-whole}
+use Rattle.reasons.specs.declared.{WhyAnswer.WhyAnswer}
+use Rattle.reasons.specs.Reasons.{whyWhole, why}
 use Rattle.entry.specs.declared.{Opened.Opened}
 use Rattle.entry.specs.Entry.{Opens}
 
@@ -53,3 +55,14 @@ module _ {pm : EvcPm} {refp : List EvcRefP} {keys rows : List ℕ} {o : Opened} 
 
     pub lists-come-to : record { answer = r .answer; pm = stands keys after (r .rest); refp = listsIn after } ≡ lists pm refp c
     lists-come-to = rw (came .lists-answers, came .lists-stand-for, came .lists-are) (sym on-whole)
+
+-- ---- the question why
+
+module _ {pm : EvcPm} {refp : List EvcRefP} {keys rows : List ℕ} {o : Opened} (p : Opens pm refp keys rows o) (c : RefpCall) (slot : ℕ) where
+  pub why-turned-away : o .«is_whole» ≡ false → WhyAnswer.Refused Refusal.StateNotWhole ≡ why pm c slot
+  unfolding why
+  why-turned-away e = rw (came-broken p e) refl
+
+  pub why-comes-to : o .«is_whole» ≡ true → whyWhole (map (slotAt rows) keys) c slot ≡ why pm c slot
+  unfolding why
+  why-comes-to e = rw (came-whole p e) (ap (λ (q : EvcPm). whyWhole (q .pic) c slot) (opened-is p e))

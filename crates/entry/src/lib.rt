@@ -5,6 +5,7 @@ pub mod init;
 pub mod lists;
 pub mod out;
 pub mod put;
+pub mod why;
 
 use apart::put_together;
 use apart::take_apart;

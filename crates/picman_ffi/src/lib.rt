@@ -5,6 +5,7 @@ pub mod arrays;
 pub mod exchanged;
 pub mod lines;
 pub mod plan;
+pub mod why;
 
 ghost use mathlib.Core.Path.{_≡_};
 ghost use Rattle.tbl.specs.DepthRows.{sliceDepth, sliceDepthP};

@@ -5,9 +5,9 @@ use super::MAX_POC;
 use crate::call::{Answer, Lists, Outcome};
 use crate::image::{Entry, Machine, Slot, PLACES};
 
-const SLICE_I: u8 = 1;
+pub const SLICE_I: u8 = 1;
 const SLICE_P: u8 = 2;
-const SLICE_B: u8 = 3;
+pub const SLICE_B: u8 = 3;
 
 pub fn lists(machine: &mut Machine, request: &Lists) -> Outcome {
     if asks_for_lists(machine, request)? {
@@ -117,7 +117,7 @@ impl Walks<'_> {
 }
 
 /// By number, highest first, equal numbers in slot order.
-fn ordered(machine: &Machine) -> Vec<Slot> {
+pub(super) fn ordered(machine: &Machine) -> Vec<Slot> {
     let mut order: Vec<Slot> = Vec::with_capacity(PLACES);
     for slot in machine.pic.iter().filter(|slot| slot.marked()) {
         let at = order.iter().position(|other| other.poc < slot.poc).unwrap_or(order.len());
@@ -132,17 +132,17 @@ enum Side {
     Higher,
 }
 
-fn old(request: &Lists, slot: &Slot) -> bool {
+pub(super) fn old(request: &Lists, slot: &Slot) -> bool {
     let last_intra = i64::from(request.last_intra);
     last_intra >= 0 && i64::from(request.poc) >= last_intra && i64::from(slot.poc) < last_intra
 }
 
-fn age_test_applies(request: &Lists) -> bool {
+pub(super) fn age_test_applies(request: &Lists) -> bool {
     request.slice_type != SLICE_P || request.layer == 0
 }
 
 /// The highest layer that a pass takes at its start; 255 bounds nothing.
-fn first_bound(request: &Lists) -> u8 {
+pub(super) fn first_bound(request: &Lists) -> u8 {
     match (request.slice_type, request.layer) {
         (SLICE_P, 1) => 1,
         (SLICE_P, _) => 255,
@@ -151,7 +151,7 @@ fn first_bound(request: &Lists) -> u8 {
 }
 
 /// The same once a picture has been taken.
-fn next_bound(request: &Lists, taken: &Slot) -> u8 {
+pub(super) fn next_bound(request: &Lists, taken: &Slot) -> u8 {
     match (request.slice_type, request.layer) {
         (SLICE_P, 0) => 255,
         (SLICE_P, _) => 1,

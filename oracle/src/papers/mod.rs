@@ -10,6 +10,7 @@ pub mod plan;
 pub mod poc;
 pub mod store;
 pub mod whole;
+pub mod why;
 
 use crate::call::{Call, Outcome};
 use crate::image::Machine;

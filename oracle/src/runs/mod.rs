@@ -8,3 +8,4 @@ pub mod running;
 pub mod sequences;
 pub mod states;
 pub mod tables;
+pub mod why;

@@ -1,0 +1,3 @@
+pub mod Reaching
+pub mod Judging
+pub mod Asking
