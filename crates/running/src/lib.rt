@@ -13,7 +13,17 @@ ghost use mathlib.Core.Path.{_≡_};
 ghost use lib.ListN.{length};
 ghost use Rattle.keys.specs.Keys.{Sized};
 ghost use Rattle.registers.specs.Registers.{registersLength};
-ghost use Rattle.running.specs.Slices.{slices, replyTo, CallLeaves, Leaves};
+ghost use Rattle.running.specs.Slices.{slices, scalarsAt, replyTo, CallLeaves, Leaves};
+
+// The scalars that the registers are read as.
+pub fn scalars_at(registers: &[u32]) -> Scalars
+    requires { ⌜ length (now registers) ≡ registersLength ⌝ }
+    ensures { λ r. ⌜ r ≡ scalarsAt (now (registers .entry)) ⌝ }
+{
+    let rest = registers::rest_of(registers);
+    let poc = registers::poc_of(registers);
+    Scalars { rest, poc }
+}
 
 // A call that is turned down leaves the registers unwritten: what they are read as stays anyway, and so do their bits.
 fn call_on(keys: &mut [u64], rows: &mut [u32], registers: &mut [u32], call: Call) -> Reply
@@ -23,9 +33,7 @@ fn call_on(keys: &mut [u64], rows: &mut [u32], registers: &mut [u32], call: Call
         let after = slices (now (keys .exit)) (now (rows .exit)) (now (registers .exit)) in
         ⌜ CallLeaves r call before after ⌝ }
 {
-    let rest = registers::rest_of(registers);
-    let poc = registers::poc_of(registers);
-    let before = Scalars { rest, poc };
+    let before = scalars_at(registers);
     let made = checked_call(keys, rows, before, call);
     let reply = made.reply;
     if is_refusal_number(reply.status) {

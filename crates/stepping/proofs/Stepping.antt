@@ -1,4 +1,4 @@
--- What a call makes of a machine taken apart is what the definition makes of the machine.
+-- What a call leaves of the slices of a machine taken apart is what the definition makes of the machine.
 -- Assumes nothing.
 use mathlib.Core.Path.{_≡_, refl, sym, ap, _∙_}
 use mathlib.Core.Bool.{Bool, true, false, true≢false}
@@ -10,17 +10,20 @@ use Rattle.def.specs.State.{slots}
 use Rattle.def.specs.declared.{EvcPm.EvcPm, EvcPoc.EvcPoc}
 use Rattle.def.specs.declared.Answer.the-variants.{Refused}
 use Rattle.def.specs.declared.Refusal.the-variants.{StateNotWhole}
-use Rattle.keys.specs.Keys.{slotAt}
+use Rattle.keys.specs.Keys.{slotAt, Sized}
+use Rattle.registers.specs.Registers.{registersLength, restOf, pocOf}
 use Rattle.whole.specs.Whole.{whole}
-use Rattle.line.specs.declared.{Call.Call}
+use Rattle.line.specs.declared.{Call.Call, Line.Line, Reply.Reply}
 use Rattle.line.specs.declared.Call.the-variants.{Init, GetEmptyPic, PutPic, OutPic, RefpInit, PocDerivation}
 use Rattle.line.specs.Answers.{replyOf}
-use Rattle.machine.specs.declared.{Machine.Machine, Stepped.Stepped, Scalars.Scalars, Made.Made}
-use Rattle.machine.specs.Step.{stepped, step}
-use Rattle.machine.specs.Running.{machineIn, readsState, callByte, Runs, Makes}
+use Rattle.machine.specs.declared.{Machine.Machine, Stepped.Stepped, Scalars.Scalars}
+use Rattle.machine.specs.Step.{stepped, step, stepLine}
+use Rattle.machine.specs.Running.{machineIn, readsState, callByte, Runs}
 use Rattle.machine.specs.Claims.{TurnedDown}
 use Rattle.machine.proofs.EveryCall.{call-unchanged, call-sound}
 use Rattle.machine.proofs.Running.{not-whole-step}
+use Rattle.running.specs.Slices.{Slices, slices, scalarsAt, sized, replyTo, Leaves}
+use Rattle.running.proofs.Answering.{scalars-are}
 use Rattle.stepping.specs.Parts.{TakenMachine}
 
 abbrev pub withRecord : Machine → EvcPoc → Machine
@@ -40,6 +43,30 @@ on-record m m′ OutPic r e = absurd (true≢false r)
 on-record m m′ (RefpInit slice poc layer intra limit) r e = absurd (true≢false r)
 on-record m m′ (PocDerivation L t) r e = record { replies = rw e; machine-is = rw e }
 
+-- ---- a line on the slices
+
+-- What a call comes to on keys, rows and scalars.
+pub record Came (reply : Reply) (after : Scalars) (keys′ rows′ : List ℕ) (wanted : Stepped) : Type 0 where
+  pub replies : reply ≡ wanted .reply
+  pub machine-is : machineIn keys′ rows′ after ≡ wanted .machine
+  pub still-sized : Sized keys′ rows′
+
+-- on slices whose registers hold the scalars
+pub call-came : {reply : Reply} {call : Call} {s : Scalars} {keys rows registers : List ℕ} {after : Slices} → Sized keys rows → length registers ≡ registersLength
+    → (restOf registers ≡ s .rest) × (pocOf registers ≡ s .poc)
+    → (reply ≡ replyTo (slices keys rows registers) (Line.Good call)) × Leaves (Line.Good call) (slices keys rows registers) after
+    → Came reply (scalarsAt (after .registers)) (after .keys) (after .rows) (step (machineIn keys rows s) call)
+unfolding replyTo stepLine
+call-came {reply} {call} {s} {keys} {rows} {registers} {after} long thirteen held (is, leaves) =
+    let fits : sized (slices keys rows registers) ≡ true = rw (long .slots-long, long .rows-long, thirteen) refl in
+    let read : scalarsAt registers ≡ s = sym (scalars-are registers (sym (held .0)) (sym (held .1))) in
+    let told : reply ≡ step (machineIn keys rows (scalarsAt registers)) call .reply = rw fits at is in
+    record {
+      replies = told ∙ ap (λ (q : Scalars). step (machineIn keys rows q) call .reply) read;
+      machine-is = leaves .machine-is fits ∙ ap (λ (q : Scalars). step (machineIn keys rows q) call .machine) read;
+      still-sized = record { slots-long = leaves .keys-long ∙ long .slots-long; rows-long = leaves .rows-long ∙ long .rows-long };
+    }
+
 -- ---- a machine taken apart
 
 module _ {m : Machine} {keys rows : List ℕ} {s : Scalars} (taken : TakenMachine m keys rows s) where
@@ -49,46 +76,46 @@ module _ {m : Machine} {keys rows : List ℕ} {s : Scalars} (taken : TakenMachin
   all-slots : whole (m .pm) ≡ true → length (m .pm .pic) ≡ slots
   all-slots w = ap (λ (q : EvcPm). length (q .pic)) (sym (taken .same-state w)) ∙ length-map keys (slotAt rows) ∙ taken .sized .slots-long
 
-  module _ (call : Call) {r : Made} {keys′ rows′ : List ℕ} (made : Makes r s keys rows keys′ rows′ (step (machineIn keys rows s) call)) where
-    same-reply : r .reply ≡ step m call .reply
-    same-reply = made .replies ∙ pick (readsState call) refl (whole (m .pm)) refl
+  module _ (call : Call) {reply : Reply} {after : Scalars} {keys′ rows′ : List ℕ} (came : Came reply after keys′ rows′ (step (machineIn keys rows s) call)) where
+    same-reply : reply ≡ step m call .reply
+    same-reply = came .replies ∙ pick (readsState call) refl (whole (m .pm)) refl
       where
         pick : (b : Bool) → readsState call ≡ b → (w : Bool) → whole (m .pm) ≡ w → step (machineIn keys rows s) call .reply ≡ step m call .reply
         pick false e w f = on-record m (machineIn keys rows s) call e (taken .same-record) .replies
         pick true e true f = ap (λ (n : Machine). step n call .reply) (same-machine f)
         pick true e false f = rw (not-whole-step (machineIn keys rows s) call e (taken .same-whole ∙ f), not-whole-step m call e f) refl
 
-    comes-to : (n : Machine) → n ≡ step m call .machine → stepped (r .reply) n ≡ step m call
+    comes-to : (n : Machine) → n ≡ step m call .machine → stepped (reply) n ≡ step m call
     comes-to n e = rw (same-reply, e) refl
 
-    pub turned-down : TurnedDown (r .reply) → stepped (r .reply) m ≡ step m call
+    pub turned-down : TurnedDown (reply) → stepped (reply) m ≡ step m call
     turned-down t = comes-to m (sym (call-unchanged m call (rw same-reply at t)))
 
-    pub derived : readsState call ≡ false → stepped (r .reply) (withRecord m (r .scalars .poc)) ≡ step m call
+    pub derived : readsState call ≡ false → stepped (reply) (withRecord m (after .poc)) ≡ step m call
     derived e =
-        comes-to (withRecord m (r .scalars .poc))
-        (ap (λ (n : Machine). withRecord m (n .poc)) (made .machine-is) ∙ on-record m (machineIn keys rows s) call e (taken .same-record) .machine-is)
+        comes-to (withRecord m (after .poc))
+        (ap (λ (n : Machine). withRecord m (n .poc)) (came .machine-is) ∙ on-record m (machineIn keys rows s) call e (taken .same-record) .machine-is)
 
     -- a call that reads the state and is not turned down found it whole
-    module _ (e : readsState call ≡ true) (accepted : TurnedDown (r .reply) → ⊥) where
+    module _ (e : readsState call ≡ true) (accepted : TurnedDown (reply) → ⊥) where
       was-whole : whole (m .pm) ≡ true
       was-whole = pick (whole (m .pm)) refl
         where
-          seven : whole (m .pm) ≡ false → r .reply ≡ replyOf (callByte call) (Refused StateNotWhole)
+          seven : whole (m .pm) ≡ false → reply ≡ replyOf (callByte call) (Refused StateNotWhole)
           seven f = same-reply ∙ ap (λ (x : Stepped). x .reply) (not-whole-step m call e f)
 
           pick : (w : Bool) → whole (m .pm) ≡ w → whole (m .pm) ≡ true
           pick true f = f
           pick false f = absurd (accepted (rw (seven f) (refusals-in-use StateNotWhole)))
 
-      reached : machineIn keys′ rows′ (r .scalars) ≡ step m call .machine
-      reached = made .machine-is ∙ ap (λ (n : Machine). step n call .machine) (same-machine was-whole)
+      reached : machineIn keys′ rows′ after ≡ step m call .machine
+      reached = came .machine-is ∙ ap (λ (n : Machine). step n call .machine) (same-machine was-whole)
 
-      pub runs : Runs keys′ rows′ (r .scalars)
+      pub runs : Runs keys′ rows′ after
       runs = record {
-        sized = made .still-sized;
+        sized = came .still-sized;
         whole-state = ap (λ (n : Machine). whole (n .pm)) reached ∙ call-sound m call (record { whole-state = was-whole; all-slots = all-slots was-whole }) .whole-state;
       }
 
-      pub accepted-is : stepped (r .reply) (machineIn keys′ rows′ (r .scalars)) ≡ step m call
-      accepted-is = comes-to (machineIn keys′ rows′ (r .scalars)) reached
+      pub accepted-is : stepped (reply) (machineIn keys′ rows′ after) ≡ step m call
+      accepted-is = comes-to (machineIn keys′ rows′ after) reached

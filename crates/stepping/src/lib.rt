@@ -1,15 +1,19 @@
-// One call on a machine by value, for the image that the library lends: the machine is taken apart, the call goes the one road of
-// `machine::calls`, and the machine is put together again.
+// One call on a machine by value, for the image that the library lends: the machine is taken apart into the three slices of the running
+// machine, the call goes their one road, `running::reply_on`, and the machine is put together again.
 use def::is_refusal_number;
 use keys::ROWS;
 use keys::SLOTS;
 use line::Call;
+use line::Line;
 use machine::Machine;
 use machine::Stepped;
-use machine::calls::checked_call;
 use machine::calls::reads_state;
 use parts::put_machine;
 use parts::take_machine;
+use registers::REGISTERS;
+use registers::store;
+use running::reply_on;
+use running::scalars_at;
 ghost use mathlib.Core.Path.{_≡_};
 ghost use Rattle.machine.specs.Step.{step};
 
@@ -21,13 +25,16 @@ pub fn step(m: Machine, call: Call) -> Stepped
 {
     let mut keys = [0u64; SLOTS];
     let mut rows = [0u32; ROWS];
+    let mut registers = [0u32; REGISTERS];
     let before = take_machine(m, &mut keys, &mut rows);
-    let made = checked_call(&mut keys, &mut rows, before, call);
-    let reply = made.reply;
+    let rest = before.rest;
+    let poc = before.poc;
+    store(&mut registers, rest, poc);
+    let reply = reply_on(&mut keys, &mut rows, &mut registers, Line::Good(call));
     if is_refusal_number(reply.status) {
         return Stepped { reply, machine: m };
     }
-    let scalars = made.scalars;
+    let scalars = scalars_at(&registers);
     if reads_state(call) {
         let machine = put_machine(&keys, &rows, scalars);
         return Stepped { reply, machine };

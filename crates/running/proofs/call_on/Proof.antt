@@ -1,25 +1,17 @@
 -- `running::call_on` meets its contract: the scalars are read, the call made, and the scalars after it written unless it is turned down.
 -- Assumes nothing.
 use mathlib.Core.Path.{_≡_, sym, _∙_}
-use Rattle.running.specs.Slices.{scalarsAt}
 use Rattle.def.proofs.Refusals.{in-use, not-in-use}
-use Rattle.running.proofs.Answering.{scalars-are, call-refused, call-made}
+use Rattle.running.proofs.Answering.{call-refused, call-made}
 use borrow.Author.Needs.{needs}
 use Rattle.running.proofs.call_on.Statement.{statement}
 use Rattle.running.proofs.call_on.Tie as tie
 
-abbrev start : tie.After-poc-of → tie.Start
-start c = c .before .before .before .before .before .before .before
+abbrev start : tie.After-scalars-at → tie.Start
+start c = c .before .before .before .before .before
 
--- the scalars that the call is given are those that the registers are read as
-scalars-read : (c : tie.After-poc-of) → record { rest = c .before .before .rest-of .result; poc = c .poc-of .result } ≡ scalarsAt (start c .args .registers .now)
-scalars-read c = scalars-are (start c .args .registers .now) (c .before .before .rest-of .ensures) (c .poc-of .ensures)
-
-rest-of-requires : tie.Need-rest-of-requires
-rest-of-requires c κs = search needs
-
-poc-of-requires : tie.Need-poc-of-requires
-poc-of-requires c κs = search needs
+scalars-at-requires : tie.Need-scalars-at-requires
+scalars-at-requires c κs = search needs
 
 checked-call-requires : tie.Need-checked-call-requires
 checked-call-requires c κs = search needs
@@ -40,7 +32,7 @@ returns : tie.Need-returns
 returns c =
     let tested = c .before in
     let called = tested .before .before .before .before .before .before in
-    call-refused _ _ (scalars-read (called .before .before .before)) (called .checked-call .ensures) (in-use (called .checked-call .result .reply .status) (sym (tested .is-refusal-number .ensures) ∙ c .if1 .taken))
+    call-refused _ _ (called .before .before .before .scalars-at .ensures) (called .checked-call .ensures) (in-use (called .checked-call .result .reply .status) (sym (tested .is-refusal-number .ensures) ∙ c .if1 .taken))
 
 store-requires : tie.Need-store-requires
 store-requires c κs =
@@ -62,14 +54,13 @@ returns-2 c =
     let left = stored .before .before .before .before .before in
     let tested = left .before in
     let called = tested .before .before .before .before .before .before in
-    call-made _ _ (scalars-read (called .before .before .before)) (called .checked-call .ensures) (not-in-use (called .checked-call .result .reply .status) (sym (tested .is-refusal-number .ensures) ∙ left .if1 .left)) (stored .store .ensures .1 .0) (stored .store .ensures .1 .1)
+    call-made _ _ (called .before .before .before .scalars-at .ensures) (called .checked-call .ensures) (not-in-use (called .checked-call .result .reply .status) (sym (tested .is-refusal-number .ensures) ∙ left .if1 .left)) (stored .store .ensures .1 .0) (stored .store .ensures .1 .1)
 
 pub call-on-spec : {M : Type 1} → statement M
 call-on-spec =
     tie.close
     (tie.spec
-    rest-of-requires
-    poc-of-requires
+    scalars-at-requires
     checked-call-requires
     is-refusal-number-requires
     same-length

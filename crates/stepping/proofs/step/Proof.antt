@@ -1,10 +1,24 @@
 -- `stepping::step` meets its contract: by what became of the call. Assumes nothing.
-use mathlib.Core.Path.{sym, _∙_}
+use mathlib.Core.Path.{sym, ap, _∙_}
+use lib.ListN.{length}
 use Rattle.def.proofs.Refusals.{in-use, not-in-use}
-use Rattle.stepping.proofs.Stepping.{turned-down, derived, runs, accepted-is}
+use Rattle.stepping.proofs.Stepping.{call-came, turned-down, derived, runs, accepted-is}
 use borrow.Author.Needs.{needs}
 use Rattle.stepping.proofs.step.Statement.{statement}
 use Rattle.stepping.proofs.step.Tie as tie
+
+-- where the call was made, where the registers were written, and where the machine was taken apart
+abbrev at-reply : tie.After-is-refusal-number → tie.After-reply-on
+at-reply c = c .before .before .before .before
+
+abbrev at-store : tie.After-reply-on → tie.After-store
+at-store c = c .before .before .before .before .before
+
+abbrev at-take : tie.After-store → tie.After-take-machine
+at-take c = c .before .before .before .before .before .before
+
+abbrev start : tie.After-take-machine → tie.Start
+start c = c .before .before .before
 
 slice-aggregate-take-machine : tie.Need-slice-aggregate-take-machine
 slice-aggregate-take-machine c = search needs
@@ -15,14 +29,23 @@ slice-aggregate-take-machine-2 c = search needs
 take-machine-requires : tie.Need-take-machine-requires
 take-machine-requires c κs = search needs
 
-slice-aggregate-checked-call : tie.Need-slice-aggregate-checked-call
-slice-aggregate-checked-call c = search needs
+slice-aggregate-store : tie.Need-slice-aggregate-store
+slice-aggregate-store c = search needs
 
-slice-aggregate-checked-call-2 : tie.Need-slice-aggregate-checked-call-2
-slice-aggregate-checked-call-2 c = search needs
+store-requires : tie.Need-store-requires
+store-requires c κs = search needs
 
-checked-call-requires : tie.Need-checked-call-requires
-checked-call-requires c κs = search needs
+slice-aggregate-reply-on : tie.Need-slice-aggregate-reply-on
+slice-aggregate-reply-on c = search needs
+
+slice-aggregate-reply-on-2 : tie.Need-slice-aggregate-reply-on-2
+slice-aggregate-reply-on-2 c = search needs
+
+slice-aggregate-reply-on-3 : tie.Need-slice-aggregate-reply-on-3
+slice-aggregate-reply-on-3 c = search needs
+
+reply-on-requires : tie.Need-reply-on-requires
+reply-on-requires c κs = search needs
 
 is-refusal-number-requires : tie.Need-is-refusal-number-requires
 is-refusal-number-requires c κs = search needs
@@ -30,10 +53,17 @@ is-refusal-number-requires c κs = search needs
 returns : tie.Need-returns
 returns c =
     let told = c .before in
-    let at-call = told .before .before .before .before in
-    let at-take = at-call .before .before .before .before .before in
-    let s = at-take .before .before .before in
-    turned-down (at-take .take-machine .ensures) (s .args .call) (at-call .checked-call .ensures) (in-use _ (sym (told .is-refusal-number .ensures) ∙ c .if1 .taken))
+    let called = at-reply told in
+    let stored = at-store called in
+    let taken = at-take stored in
+    let came = call-came (taken .take-machine .ensures .sized) (ap length (stored .store .ensures .0)) (stored .store .ensures .1) (called .reply-on .ensures) in
+    turned-down (taken .take-machine .ensures) (start taken .args .call) came (in-use _ (sym (told .is-refusal-number .ensures) ∙ c .if1 .taken))
+
+slice-aggregate-scalars-at : tie.Need-slice-aggregate-scalars-at
+slice-aggregate-scalars-at c = search needs
+
+scalars-at-requires : tie.Need-scalars-at-requires
+scalars-at-requires c κs = search needs
 
 reads-state-requires : tie.Need-reads-state-requires
 reads-state-requires c κs = search needs
@@ -48,37 +78,42 @@ put-machine-requires : tie.Need-put-machine-requires
 put-machine-requires c κs =
     let at-read = c .before .before in
     let reads = at-read .before in
-    let at-else = reads .before .before in
-    let told = at-else .before in
-    let at-call = told .before .before .before .before in
-    let at-take = at-call .before .before .before .before .before in
-    let s = at-take .before .before .before in
-    runs (at-take .take-machine .ensures) (s .args .call) (at-call .checked-call .ensures) (sym (reads .reads-state .ensures) ∙ at-read .if2 .taken)
-    (not-in-use _ (sym (told .is-refusal-number .ensures) ∙ at-else .if1 .left))
+    let left = reads .before .before .before in
+    let told = left .before in
+    let called = at-reply told in
+    let stored = at-store called in
+    let taken = at-take stored in
+    let came = call-came (taken .take-machine .ensures .sized) (ap length (stored .store .ensures .0)) (stored .store .ensures .1) (called .reply-on .ensures) in
+    rw (reads .before .scalars-at .ensures)
+    (runs (taken .take-machine .ensures) (start taken .args .call) came (sym (reads .reads-state .ensures) ∙ at-read .if2 .taken)
+    (not-in-use _ (sym (told .is-refusal-number .ensures) ∙ left .if1 .left)))
 
 returns-2 : tie.Need-returns-2
 returns-2 c =
     let at-read = c .before .before .before in
     let reads = at-read .before in
-    let at-else = reads .before .before in
-    let told = at-else .before in
-    let at-call = told .before .before .before .before in
-    let at-take = at-call .before .before .before .before .before in
-    let s = at-take .before .before .before in
-    rw (c .put-machine .ensures)
-    (accepted-is (at-take .take-machine .ensures) (s .args .call) (at-call .checked-call .ensures) (sym (reads .reads-state .ensures) ∙ at-read .if2 .taken)
-    (not-in-use _ (sym (told .is-refusal-number .ensures) ∙ at-else .if1 .left)))
+    let left = reads .before .before .before in
+    let told = left .before in
+    let called = at-reply told in
+    let stored = at-store called in
+    let taken = at-take stored in
+    let came = call-came (taken .take-machine .ensures .sized) (ap length (stored .store .ensures .0)) (stored .store .ensures .1) (called .reply-on .ensures) in
+    rw (c .put-machine .ensures, reads .before .scalars-at .ensures)
+    (accepted-is (taken .take-machine .ensures) (start taken .args .call) came (sym (reads .reads-state .ensures) ∙ at-read .if2 .taken)
+    (not-in-use _ (sym (told .is-refusal-number .ensures) ∙ left .if1 .left)))
 
 returns-3 : tie.Need-returns-3
 returns-3 c =
     let at-rest = c .before .before .before in
     let reads = at-rest .before in
-    let at-else = reads .before .before in
-    let told = at-else .before in
-    let at-call = told .before .before .before .before in
-    let at-take = at-call .before .before .before .before .before in
-    let s = at-take .before .before .before in
-    derived (at-take .take-machine .ensures) (s .args .call) (at-call .checked-call .ensures) (sym (reads .reads-state .ensures) ∙ at-rest .if2 .left)
+    let left = reads .before .before .before in
+    let told = left .before in
+    let called = at-reply told in
+    let stored = at-store called in
+    let taken = at-take stored in
+    let came = call-came (taken .take-machine .ensures .sized) (ap length (stored .store .ensures .0)) (stored .store .ensures .1) (called .reply-on .ensures) in
+    rw (reads .before .scalars-at .ensures)
+    (derived (taken .take-machine .ensures) (start taken .args .call) came (sym (reads .reads-state .ensures) ∙ at-rest .if2 .left))
 
 pub step-spec : {M : Type 1} → statement M
 step-spec =
@@ -87,11 +122,16 @@ step-spec =
     slice-aggregate-take-machine
     slice-aggregate-take-machine-2
     take-machine-requires
-    slice-aggregate-checked-call
-    slice-aggregate-checked-call-2
-    checked-call-requires
+    slice-aggregate-store
+    store-requires
+    slice-aggregate-reply-on
+    slice-aggregate-reply-on-2
+    slice-aggregate-reply-on-3
+    reply-on-requires
     is-refusal-number-requires
     returns
+    slice-aggregate-scalars-at
+    scalars-at-requires
     reads-state-requires
     slice-aggregate-put-machine
     slice-aggregate-put-machine-2
