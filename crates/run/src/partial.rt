@@ -1,9 +1,9 @@
 // The line that is not finished yet between two pieces of the input. A call line has at most 26 characters, so 27 of a line are kept:
 // one that is longer is bad whatever follows.
 use buffer::paste;
-use line::LONGEST_LINE;
 use line::Line;
-use line::read_line;
+use parsing::LONGEST_LINE;
+use parsing::read_line;
 ghost use mathlib.Core.Path.{_≡_};
 ghost use mathlib.Core.List.{[], _++_};
 ghost use Prim.Native.Nat.{min};

@@ -15,7 +15,7 @@ pub fn write_answer(answer: &mut [u8], reply: Reply)
     requires { ⌜ length (now answer) ≡ answerLength ⌝ }
     ensures { λ _. ⌜ now (answer .exit) ≡ answerBytes reply ⌝ }
 {
-    let bytes = line::answer_bytes(reply);
+    let bytes = replies::answer_bytes(reply);
     paste(answer, 0, &bytes, ANSWER_LENGTH);
 }
 
@@ -38,7 +38,7 @@ pub fn call_bytes(
     if !is_sized(keys, rows, registers) {
         return BAD_LINE;
     }
-    let reply = reply_on(keys, rows, registers, line::read_call(call));
+    let reply = reply_on(keys, rows, registers, parsing::read_call(call));
     write_answer(answer, reply);
     reply.status
 }

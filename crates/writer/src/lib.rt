@@ -3,7 +3,7 @@ use def::Refusal;
 use framing::write_framed;
 use line::Call;
 use line::Line;
-use line::call_in;
+use parsing::call_in;
 ghost use mathlib.Core.Path.{_≡_};
 ghost use Rattle.line.specs.Calls.{callBytes};
 ghost use Rattle.writer.specs.Writing.{isCallBody, shortBody, longBody, HoldsBody, written, writtenOut};

@@ -1,4 +1,4 @@
--- `line::is_call` meets its contract. Assumes nothing.
+-- `parsing::is_call` meets its contract. Assumes nothing.
 use mathlib.Core.Path.{sym, ap, _∙_}
 use mathlib.Core.Bool.{Bool, _&&_, and-true}
 use lib.Dec.{eqb}
@@ -6,8 +6,8 @@ use borrow.Author.Tests.{ne-eqb, eq-eqb}
 use Rattle.hex.proofs.HexLaws.{not-second}
 use Rattle.hex.specs.Frame.{byteAt}
 use borrow.Author.Needs.{needs}
-use Rattle.line.proofs.is_call.Statement.{statement}
-use Rattle.line.proofs.is_call.Tie as tie
+use Rattle.parsing.proofs.is_call.Statement.{statement}
+use Rattle.parsing.proofs.is_call.Tie as tie
 
 returns : tie.Need-returns
 returns c =

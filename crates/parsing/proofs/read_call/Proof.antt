@@ -1,4 +1,4 @@
--- `line::read_call` meets its contract: bytes without their check byte are Bad, and of any others the body is read.
+-- `parsing::read_call` meets its contract: bytes without their check byte are Bad, and of any others the body is read.
 -- Assumes nothing.
 use Prim.Native.Nat.{_<_}
 use mathlib.Core.Path.{_≡_, sym, _∙_}
@@ -10,10 +10,10 @@ use Rattle.seq.proofs.Tests.{and-left}
 use Rattle.hex.specs.Hex.{sum8}
 use Rattle.hex.specs.Frame.{isChecked, bodyOf}
 use Rattle.hex.proofs.HexLaws.{body-length}
 use Rattle.line.proofs.Reading.{unchecked, checked}
 use borrow.Author.Needs.{needs}
-use Rattle.line.proofs.read_call.Statement.{statement}
-use Rattle.line.proofs.read_call.Tie as tie
+use Rattle.parsing.proofs.read_call.Statement.{statement}
+use Rattle.parsing.proofs.read_call.Tie as tie
 
 is-checked-requires : tie.Need-is-checked-requires
 is-checked-requires c κs = search needs

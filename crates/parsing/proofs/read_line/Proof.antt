@@ -1,4 +1,4 @@
--- `line::read_line` meets its contract: a line that is too long or not framed is Bad, and of any other the body is read as a call.
+-- `parsing::read_line` meets its contract: a line that is too long or not framed is Bad, and of any other the body is read as a call.
 -- Assumes nothing.
 use Prim.Native.Nat.{ℕ, _-_, _/_}
 use mathlib.Core.Path.{_≡_, sym, ap, _∙_}
@@ -10,12 +10,12 @@ use Rattle.hex.specs.Hex.{bytesOf}
 use Rattle.hex.specs.Frame.{bodyOf, isFramed}
 use Rattle.hex.proofs.HexLaws.{bytes-length, body-length}
 use Rattle.framing.proofs.Framed.{some-byte, body-at-front}
 use Rattle.line.specs.Calls.{callIn, lineFor}
 use Rattle.line.proofs.CallLaws.{too-long}
 use Rattle.line.proofs.Reading.{not-framed, framed-line}
 use borrow.Author.Needs.{needs}
-use Rattle.line.proofs.read_line.Statement.{statement}
-use Rattle.line.proofs.read_line.Tie as tie
+use Rattle.parsing.proofs.read_line.Statement.{statement}
+use Rattle.parsing.proofs.read_line.Tie as tie
 
 returns : tie.Need-returns
 returns c = sym (too-long _ (c .if1 .taken))

@@ -1,8 +1,8 @@
--- `line::put_in` meets its contract. Assumes nothing.
+-- `unpacking::put_in` meets its contract. Assumes nothing.
 use borrow.Author.Tests.{lt-ltb, le-ltb}
 use borrow.Author.Needs.{needs}
-use Rattle.line.proofs.put_in.Statement.{statement}
-use Rattle.line.proofs.put_in.Tie as tie
+use Rattle.unpacking.proofs.put_in.Statement.{statement}
+use Rattle.unpacking.proofs.put_in.Tie as tie
 
 shared-slice-read-flags : tie.Need-shared-slice-read-flags
 shared-slice-read-flags c = search needs

@@ -1,4 +1,4 @@
--- `line::answer_line` meets its contract. The loop's invariant: the digits written, with those of the bytes left, are the digits of all,
+-- `replies::answer_line` meets its contract. The loop's invariant: the digits written, with those of the bytes left, are the digits of all,
 -- and the newline stands behind them. Assumes nothing.
 use Prim.Native.Nat.{ℕ, _+_, _-_, _*_, _≤_, _<_}
 use native.Mathlib.Omega.{arith}
@@ -9,9 +9,9 @@ use lib.ListN.{length, take, drop, set, length-set, take-append-drop, drop-of-le
 use lib.Seq.{drop-set-lt}
 use Rattle.hex.specs.Hex.{digitsOf}
 use Rattle.hex.proofs.Pairs.{pair-digits}
 use Rattle.line.specs.Answers.{newline, answerDigits, answerLine}
-use Rattle.line.proofs.answer_line.Statement.{statement}
-use Rattle.line.proofs.answer_line.Tie as tie
+use Rattle.replies.proofs.answer_line.Statement.{statement}
+use Rattle.replies.proofs.answer_line.Tie as tie
 
 abbrev Inv-loop : tie.InvT-loop
 Inv-loop bytes line₀ i₀ line i =

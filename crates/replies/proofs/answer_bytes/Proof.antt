@@ -1,14 +1,14 @@
--- `line::answer_bytes` meets its contract: a last byte of zero adds nothing to the sum, and the one that takes its place brings it to zero.
+-- `replies::answer_bytes` meets its contract: a last byte of zero adds nothing to the sum, and the one that takes its place brings it to zero.
 -- Assumes nothing.
 use Prim.Native.Nat.{ℕ, _-_, _%_}
 use mathlib.Core.Path.{_≡_, ap, _∙_}
 use mathlib.Core.List.{[], _∷_, _++_}
 use Rattle.hex.specs.Hex.{sum8, checkByte}
 use Rattle.hex.proofs.HexLaws.{sum8-zero}
 use Rattle.line.specs.Answers.{replyBytes}
 use borrow.Author.Needs.{needs}
-use Rattle.line.proofs.answer_bytes.Statement.{statement}
-use Rattle.line.proofs.answer_bytes.Tie as tie
+use Rattle.replies.proofs.answer_bytes.Statement.{statement}
+use Rattle.replies.proofs.answer_bytes.Tie as tie
 
 cast-bytes : tie.Need-cast-bytes
 cast-bytes c = search needs

@@ -1,4 +1,4 @@
--- `line::call_in` meets its contract: each way out knows which kind the body is of, and of which it isn't.
+-- `parsing::call_in` meets its contract: each way out knows which kind the body is of, and of which it isn't.
 -- Assumes nothing.
 use mathlib.Core.Bool.{true, false}
 use borrow.Author.Needs.{needs}
@@ -9,12 +9,12 @@ use lib.ListN.{length}
 use borrow.Author.Tests.{eqb-true}
 use lib.Dec.{eqb}
 use Rattle.seq.proofs.Tests.{and-right}
 use Rattle.line.specs.declared.Line.the-variants.{Good}
 use Rattle.hex.specs.Frame.{byteAt}
 use Rattle.line.specs.Calls.{isCall, callIn}
 use native.Mathlib.Omega.{arith}
-use Rattle.line.proofs.call_in.Statement.{statement}
-use Rattle.line.proofs.call_in.Tie as tie
+use Rattle.parsing.proofs.call_in.Statement.{statement}
+use Rattle.parsing.proofs.call_in.Tie as tie
 
 size : (body : List ℕ) (call n : ℕ) → isCall call n body ≡ true → length body ≡ n
 size body call n e = eqb-true (length body) n (and-right (eqb (byteAt body 0) call) (eqb (length body) n) e)
