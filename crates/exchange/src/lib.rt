@@ -2,10 +2,10 @@
 // them. Any bits may stand in the arrays and in the image. A state that is not whole is turned down both ways: keys cannot say every such state.
 use image::is_image;
 use image::places::IMAGE_LENGTH;
-use image::read::read_pm;
-use image::read::read_poc;
-use image::read::read_refps;
-use image::write::write_image;
+use image_reading::read_pm;
+use image_reading::read_poc;
+use image_reading::read_refps;
+use image_writing::write_image;
 use keys::ROWS;
 use keys::SLOTS;
 use line::BAD_LINE;

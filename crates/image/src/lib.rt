@@ -1,5 +1,5 @@
 // The image that the library lends to C: state, lists and record as 6,407 bytes, big-endian.
-// Which bytes are an image, what they stand for, and how they are written.
+// Which bytes are an image, and in specs/ what they stand for and how they are written. Every call on an image asks this first.
 use crate::places::IMAGE_LENGTH;
 use crate::places::REFP_PLACE;
 use crate::places::REFP_WIDTH;
@@ -14,8 +14,6 @@ ghost use Rattle.def.specs.State.{slots, listPlaces};
 ghost use Rattle.image.specs.Image.{slotWidth, refpWidth, refpPlace, imageLength, rowAt, isFlag, slotFlags, isImage};
 
 pub mod places;
-pub mod read;
-pub mod write;
 
 pub fn is_flag(image: &[u8], at: usize) -> bool
     requires { ⌜ at < length (now image) ⌝ }

@@ -9,7 +9,7 @@ use image::is_flag;
 use image::is_image;
 use image::places::IMAGE_LENGTH;
 use image::places::REFP_WIDTH;
-use image::read::read_refp;
+use image_reading::read_refp;
 use line::BAD_LINE;
 use line::Call;
 use line::Line;

@@ -6,7 +6,7 @@ use def::Refusal;
 use def::refusal_number;
 use entry::why::evc_picman_why;
 use image::is_image;
-use image::read::read_pm;
+use image_reading::read_pm;
 use judging::why_on;
 use keys::PLACES;
 use keys::SLOTS;
