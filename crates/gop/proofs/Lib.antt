@@ -1,4 +1,3 @@
-mod Passed
 mod Lengths
 mod Derivations
 pub mod Claims

@@ -1,5 +1,6 @@
 // The group planner on a record of 12 bytes and a plan of 7 that the caller lends, for the library's `picman_plan`. Where a size or the byte
 // for the hierarchy does not fit it gives 18; that and every other refusal writes nothing.
+use deciding::decide_normal_gop;
 use def::EvcPoc;
 use def::Refusal;
 use def::SliceType;
@@ -7,7 +8,6 @@ use def::refusal_number;
 use flags::flag_byte;
 use gop::PicturePlan;
 use gop::PlanAnswer;
-use gop::decide_normal_gop;
 use records::read_poc_at;
 use records::write_poc_at;
 use records::write_signed;
