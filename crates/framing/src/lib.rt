@@ -1,11 +1,11 @@
 // A framed line read and written, whatever its bytes mean: hex pairs, a sum of zero, the check byte last.
 // The public functions' `requires` are met by who has tested that there is room.
-use hex::check_byte;
+use decoding::decode;
 use hex::high_digit;
-use hex::is_checked;
 use hex::low_digit;
-use hex::sum8;
-use pairs::decode;
+use summing::check_byte;
+use summing::is_checked;
+use summing::sum8;
 ghost use mathlib.Core.Path.{_≡_};
 ghost use mathlib.Core.Bool.{true};
 ghost use Prim.Native.Nat.{_*_, _/_, _≤_};

@@ -1,5 +1,5 @@
 // Answers given to be written. A write that fails is said on standard error, with the system's words, and how it went is handed on.
-use hex::tables::TABLE_SIZE;
+use lookup::TABLE_SIZE;
 use reading::Heard;
 use run::Session;
 use run::run_end;

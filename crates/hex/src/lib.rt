@@ -1,11 +1,10 @@
-// Hex digits, bytes and their sum: what call lines and answer lines are made of.
-pub mod tables;
+// Hex digits and numbers of four bytes: what call lines and answer lines are made of. specs/ says what a line is, its sum and its check byte
+// among it. Whatever reads or writes a line rests on this.
 
 ghost use mathlib.Core.Path.{_≡_};
 ghost use mathlib.Core.Bool.{true};
-ghost use Prim.Native.Nat.{_+_, _-_, _*_, _/_, _%_, _<_};
-ghost use Rattle.hex.specs.Hex.{isDigit, digitValue, digitOf, sum8, word};
-ghost use Rattle.hex.specs.Frame.{isChecked};
+ghost use Prim.Native.Nat.{_+_, _*_, _/_, _%_, _<_};
+ghost use Rattle.hex.specs.Hex.{isDigit, digitValue, digitOf, word};
 
 pub fn is_digit(c: u8) -> bool
     ensures { λ r. ⌜ r ≡ isDigit c ⌝ }
@@ -14,7 +13,7 @@ pub fn is_digit(c: u8) -> bool
 }
 
 // The value of a digit. The low half of a letter counts from 1, and its bit 6 is set: no branch, since digits are hard to foretell.
-fn digit_value(c: u8) -> u8
+pub fn digit_value(c: u8) -> u8
     requires { ⌜ isDigit c ≡ true ⌝ }
     ensures { λ r. ⌜ r ≡ digitValue c ⌝ }
 {
@@ -27,33 +26,6 @@ pub fn pair_value(high: u8, low: u8) -> u8
     ensures { λ r. ⌜ r ≡ 16 * digitValue high + digitValue low ⌝ }
 {
     16 * digit_value(high) + digit_value(low)
-}
-
-// The sum of bytes, wrapping at 256.
-pub fn sum8(bytes: &[u8]) -> u8
-    ensures { λ r. ⌜ r ≡ sum8 (now (bytes .entry)) ⌝ }
-{
-    let mut sum: u8 = 0;
-    let mut i = 0;
-    while i < bytes.len() {
-        sum = std::num::wrapping_add_u8(sum, bytes[i]);
-        i += 1;
-    }
-    sum
-}
-
-// Whether bytes end with a check byte: at least that one, and a sum of zero.
-pub fn is_checked(bytes: &[u8]) -> bool
-    ensures { λ r. ⌜ r ≡ isChecked (now (bytes .entry)) ⌝ }
-{
-    (0 < bytes.len()) & (sum8(bytes) == 0)
-}
-
-// The check byte of bytes with this sum.
-pub fn check_byte(sum: u8) -> u8
-    ensures { λ r. ⌜ r ≡ (256 - sum) % 256 ⌝ }
-{
-    std::num::wrapping_sub_u8(0, sum)
 }
 
 // Four bytes, the highest first.

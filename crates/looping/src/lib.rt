@@ -1,7 +1,7 @@
 // Turn after turn, until one does not go on.
 use giving::Handed;
 use giving::Went;
-use hex::tables::TABLE_SIZE;
+use lookup::TABLE_SIZE;
 use run::Session;
 use turning::Pipes;
 use turning::turn;

@@ -1,9 +1,9 @@
 // Call lines read: a body, the bytes of a line, or its characters, as a call or as bad. The program, the library and the writer of call lines
 // read calls by this.
 use framing::read_framed;
-use hex::is_checked;
 use line::Call;
 use line::Line;
+use summing::is_checked;
 use unpacking::lists_in;
 use unpacking::put_in;
 ghost use mathlib.Core.Path.{_≡_};

@@ -1,9 +1,9 @@
 // An answer's eight bytes, check byte last, and its line in hex. The library hands out the bytes.
-use hex::check_byte;
 use hex::high_digit;
 use hex::low_digit;
-use hex::sum8;
 use line::Reply;
+use summing::check_byte;
+use summing::sum8;
 ghost use mathlib.Core.Path.{_≡_};
 ghost use Rattle.hex.specs.Frame.{withCheck};
 ghost use Rattle.line.specs.Answers.{replyBytes, answerLine};

@@ -4,10 +4,10 @@
 pub mod partial;
 
 use buffer::line_end;
-use hex::tables::TABLE_SIZE;
 use line::Line;
 use line::LineAt;
 use line::bad_line_reply;
+use lookup::TABLE_SIZE;
 use machine::Made;
 use machine::Scalars;
 use machine::calls::make_call;

@@ -1,14 +1,14 @@
 // A good call line read where it stands in a buffer, by the fixed length of its kind: no search for the newline, and no copy.
 // The public function's `requires` are met by who lends the table and has come to a place of the buffer.
-use hex::tables::TABLE_SIZE;
 use line::Call;
 use line::LineAt;
-use pairs::bare_at;
+use lookup::TABLE_SIZE;
 use pairs::check_at;
-use pairs::fields_at;
 use pairs::pair_at;
 use pairs::plus;
-use pairs::two_at;
+use picking::bare_at;
+use picking::fields_at;
+use picking::two_at;
 ghost use mathlib.Core.Path.{_≡_};
 ghost use Prim.Native.Nat.{_+_, _≤_, _<_};
 ghost use lib.ListN.{length};

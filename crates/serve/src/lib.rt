@@ -4,10 +4,10 @@
 use giving::Handed;
 use giving::Went;
 use giving::finish;
-use hex::tables::TABLE_SIZE;
-use hex::tables::digit_tables;
 use keys::ROWS;
 use keys::SLOTS;
+use lookup::TABLE_SIZE;
+use lookup::digit_tables;
 use looping::turns;
 use run::Session;
 use run::new_session;

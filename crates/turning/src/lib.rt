@@ -2,7 +2,7 @@
 use giving::Handed;
 use giving::Went;
 use giving::give;
-use hex::tables::TABLE_SIZE;
+use lookup::TABLE_SIZE;
 use reading::Heard;
 use reading::read_some;
 use run::Session;

@@ -1,8 +1,8 @@
 // Answer lines written straight into a lent buffer.
 // The public function's `requires` are met by who lends the table and has made room for each answer.
-use hex::check_byte;
-use hex::tables::TABLE_SIZE;
 use line::Reply;
+use lookup::TABLE_SIZE;
+use summing::check_byte;
 ghost use mathlib.Core.Path.{_≡_};
 ghost use mathlib.Core.List.{[], _∷_};
 ghost use Prim.Native.Nat.{_+_, _≤_};

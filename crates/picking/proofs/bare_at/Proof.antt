@@ -1,10 +1,10 @@
--- `pairs::bare_at` meets its contract. Assumes nothing.
+-- `picking::bare_at` meets its contract. Assumes nothing.
 use native.Mathlib.Omega.{arith}
 use mathlib.Core.Path.{refl, sym}
 use Rattle.pairs.proofs.Summing.{summed-call, cut}
 use borrow.Author.Needs.{needs}
-use Rattle.pairs.proofs.bare_at.Statement.{statement}
-use Rattle.pairs.proofs.bare_at.Tie as tie
+use Rattle.picking.proofs.bare_at.Statement.{statement}
+use Rattle.picking.proofs.bare_at.Tie as tie
 
 sub-if1 : tie.Need-sub-if1
 sub-if1 c = search needs

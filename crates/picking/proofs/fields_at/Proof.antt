@@ -1,15 +1,15 @@
--- `pairs::fields_at` meets its contract: each field's bytes join the sum, in the line's order.
+-- `picking::fields_at` meets its contract: each field's bytes join the sum, in the line's order.
 -- Assumes nothing.
 use Prim.Native.Nat.{_+_, _%_}
 use native.Mathlib.Omega.{arith}
 use mathlib.Core.Path.{refl, sym, ap, _∙_}
 use Rattle.pairs.specs.declared.Pair.{Pair}
 use Rattle.pairs.specs.declared.Quad.{Quad}
 use Rattle.pairs.proofs.Places.{pair-entry}
 use Rattle.pairs.proofs.Summing.{summed-call, summed-pair, summed-quad, quad-value}
 use borrow.Author.Needs.{needs}
-use Rattle.pairs.proofs.fields_at.Statement.{statement}
-use Rattle.pairs.proofs.fields_at.Tie as tie
+use Rattle.picking.proofs.fields_at.Statement.{statement}
+use Rattle.picking.proofs.fields_at.Tie as tie
 
 add-pair-at : tie.Need-add-pair-at
 add-pair-at c = search needs

@@ -1,14 +1,14 @@
--- `pairs::two_at` meets its contract: the two bytes join the call byte's sum, and the check byte ends the line.
+-- `picking::two_at` meets its contract: the two bytes join the call byte's sum, and the check byte ends the line.
 -- Assumes nothing.
 use Prim.Native.Nat.{ℕ, _+_, _%_}
 use native.Mathlib.Omega.{arith}
 use mathlib.Core.Path.{_≡_, refl, sym, ap, _∙_}
 use Rattle.pairs.specs.declared.Pair.{Pair}
 use Rattle.pairs.proofs.Places.{pair-entry}
 use Rattle.pairs.proofs.Summing.{summed-call, summed-pair, cut}
 use borrow.Author.Needs.{needs}
-use Rattle.pairs.proofs.two_at.Statement.{statement}
-use Rattle.pairs.proofs.two_at.Tie as tie
+use Rattle.picking.proofs.two_at.Statement.{statement}
+use Rattle.picking.proofs.two_at.Tie as tie
 
 sub-if1 : tie.Need-sub-if1
 sub-if1 c = search needs

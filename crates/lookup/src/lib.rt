@@ -1,11 +1,12 @@
-// The table of digits. A `const` array that is indexed by a variable is built anew on the stack at every use: the table is built once and lent.
-use crate::digit_value;
-use crate::high_digit;
-use crate::is_digit;
-use crate::low_digit;
+// The table of digits. A `const` array that is indexed by a variable is built anew on the stack at every use: the table is built once and lent
+// to what reads and writes lines by table.
+use hex::digit_value;
+use hex::high_digit;
+use hex::is_digit;
+use hex::low_digit;
 ghost use mathlib.Core.Path.{_≡_};
 ghost use Prim.Native.Nat.{_<_};
 ghost use Rattle.hex.specs.Hex.{charValue, digitPair, tableEntry, digitTables};
 
 pub const TABLE_SIZE: usize = 512;
 

@@ -1,8 +1,8 @@
--- `hex::tables::char_value` meets its contract. Assumes nothing.
+-- `lookup::char_value` meets its contract. Assumes nothing.
 use mathlib.Core.Path.{sym, _∙_}
 use borrow.Author.Needs.{needs}
-use Rattle.hex.proofs.tables.char_value.Statement.{statement}
-use Rattle.hex.proofs.tables.char_value.Tie as tie
+use Rattle.lookup.proofs.char_value.Statement.{statement}
+use Rattle.lookup.proofs.char_value.Tie as tie
 
 is-digit-requires : tie.Need-is-digit-requires
 is-digit-requires c κs = search needs

@@ -1,12 +1,12 @@
--- `hex::tables::digit_tables` meets its contract. The loop's invariant: the entries so far follow the rule.
+-- `lookup::digit_tables` meets its contract. The loop's invariant: the entries so far follow the rule.
 -- Assumes nothing.
 use Prim.Native.Nat.{_-_}
 use native.Mathlib.Omega.{arith}
 use mathlib.Core.Path.{refl}
 use Rattle.seq.proofs.Rows.{Filled, fill-none, fill-turn, fill-end}
 use Rattle.hex.specs.Hex.{tableEntry, digitTables}
-use Rattle.hex.proofs.tables.digit_tables.Statement.{statement}
-use Rattle.hex.proofs.tables.digit_tables.Tie as tie
+use Rattle.lookup.proofs.digit_tables.Statement.{statement}
+use Rattle.lookup.proofs.digit_tables.Tie as tie
 
 abbrev Inv-loop : tie.InvT-loop
 Inv-loop tables₀ i₀ tables i = Filled tableEntry 512 i tables

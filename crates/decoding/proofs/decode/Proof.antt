@@ -1,4 +1,4 @@
--- `pairs::decode` meets its contract. The loop's invariant: the bytes written, with those that the digits left stand for, are the bytes of the whole line,
+-- `decoding::decode` meets its contract. The loop's invariant: the bytes written, with those that the digits left stand for, are the bytes of the whole line,
 -- and its characters are digits just where those left are. Assumes nothing.
 use Prim.Native.Nat.{ℕ, _+_, _-_, _*_, _/_, _≤_, _<_}
 use native.Mathlib.Omega.{arith}
@@ -12,8 +12,8 @@ use Rattle.seq.specs.Lists.{allOf}
 use Rattle.hex.specs.Hex.{isDigit, bytesOf}
 use Rattle.hex.proofs.HexLaws.{both}
 use Rattle.hex.proofs.Pairs.{not-hex, pair-hex, pair-bytes}
-use Rattle.pairs.proofs.decode.Statement.{statement}
-use Rattle.pairs.proofs.decode.Tie as tie
+use Rattle.decoding.proofs.decode.Statement.{statement}
+use Rattle.decoding.proofs.decode.Tie as tie
 
 abbrev Inv-loop : tie.InvT-loop
 Inv-loop digits bytes₀ n i₀ bytes i =

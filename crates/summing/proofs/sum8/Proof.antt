@@ -1,14 +1,14 @@
--- `hex::sum8` meets its contract. The loop's invariant: what is summed, with the sum of the bytes left, is the sum of all.
+-- `summing::sum8` meets its contract. The loop's invariant: what is summed, with the sum of the bytes left, is the sum of all.
 -- Assumes nothing.
 use Prim.Native.Nat.{_+_, _-_, _≤_, _<_, _%_}
 use native.Mathlib.Omega.{arith}
 use mathlib.Core.Path.{_≡_}
 use borrow.Author.Needs.{needs}
 use lib.ListN.{length, drop, drop-of-length-le}
 use Rattle.hex.specs.Hex.{sum8}
 use Rattle.hex.proofs.HexLaws.{sum8-fits, sum8-step}
-use Rattle.hex.proofs.sum8.Statement.{statement}
-use Rattle.hex.proofs.sum8.Tie as tie
+use Rattle.summing.proofs.sum8.Statement.{statement}
+use Rattle.summing.proofs.sum8.Tie as tie
 
 abbrev Inv-loop : tie.InvT-loop
 Inv-loop bytes sum₀ i₀ sum i = (i ≤ length bytes) × (sum < 256) × ((sum + sum8 (drop i bytes)) % 256 ≡ sum8 bytes)

@@ -1,7 +1,7 @@
--- `hex::is_checked` meets its contract. Assumes nothing.
+-- `summing::is_checked` meets its contract. Assumes nothing.
 use borrow.Author.Needs.{needs}
-use Rattle.hex.proofs.is_checked.Statement.{statement}
-use Rattle.hex.proofs.is_checked.Tie as tie
+use Rattle.summing.proofs.is_checked.Statement.{statement}
+use Rattle.summing.proofs.is_checked.Tie as tie
 
 sum8-requires : tie.Need-sum8-requires
 sum8-requires c κs = search needs

@@ -1,8 +1,8 @@
--- `hex::tables::table_entry` meets its contract. Assumes nothing.
+-- `lookup::table_entry` meets its contract. Assumes nothing.
 use borrow.Author.Tests.{lt-ltb, le-ltb}
 use borrow.Author.Needs.{needs}
-use Rattle.hex.proofs.tables.table_entry.Statement.{statement}
-use Rattle.hex.proofs.tables.table_entry.Tie as tie
+use Rattle.lookup.proofs.table_entry.Statement.{statement}
+use Rattle.lookup.proofs.table_entry.Tie as tie
 
 cast-char-value : tie.Need-cast-char-value
 cast-char-value c = search needs

@@ -1,7 +1,7 @@
--- `pairs::quad_at` meets its contract. Assumes nothing.
+-- `picking::quad_at` meets its contract. Assumes nothing.
 use borrow.Author.Needs.{needs}
-use Rattle.pairs.proofs.quad_at.Statement.{statement}
-use Rattle.pairs.proofs.quad_at.Tie as tie
+use Rattle.picking.proofs.quad_at.Statement.{statement}
+use Rattle.picking.proofs.quad_at.Tie as tie
 
 pair-at-requires : tie.Need-pair-at-requires
 pair-at-requires c κs = search needs
