@@ -11,7 +11,7 @@ use Rattle.line.specs.Claims.{CallFits}
 use Rattle.tokens.specs.Words.{wordOf, wordsFrom}
 use Rattle.drafts.specs.declared.Draft.{Draft}
 use Rattle.drafts.specs.Drafts.{begun, isComplete}
-use Rattle.drafts.specs.Steps.{step}
+use Rattle.fitting.specs.Steps.{step}
 use Rattle.commands.specs.declared.Command.{Command}
 
 -- The call of a complete draft.

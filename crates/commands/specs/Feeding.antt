@@ -8,7 +8,7 @@ use Rattle.drafts.specs.declared.Draft.{Draft}
 use Rattle.commands.specs.declared.Reading.{Reading}
 use Rattle.tokens.specs.Words.{isSpace, isHash, emptyWord, longer}
 use Rattle.drafts.specs.Drafts.{begun}
-use Rattle.drafts.specs.Steps.{step}
+use Rattle.fitting.specs.Steps.{step}
 
 abbrev pub reading : Draft → Word → Bool → Reading
 reading d w comment = record { draft = d; word = w; comment = comment }

@@ -3,7 +3,7 @@
 use drafts::Draft;
 use drafts::begun;
 use drafts::is_complete;
-use drafts::parts::step;
+use fitting::step;
 use line::Call;
 use tokens::Word;
 use tokens::longer;

@@ -1,6 +1,4 @@
-// A command of which some words were read, and what one more word does to it (module `parts`).
-pub mod parts;
-
+// A command of which some words were read: which word is wanted next, and what was given. Crates `naming` and `fitting` take the words.
 ghost use mathlib.Core.Path.{_≡_};
 ghost use Prim.Native.Nat.{_<_};
 ghost use Rattle.drafts.specs.Drafts.{begun, started, failed, withFirst, withNumber, withLayer, withSpan, withLimit, withGiven, marked, isComplete};

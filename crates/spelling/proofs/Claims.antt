@@ -19,7 +19,7 @@ use Rattle.tokens.specs.declared.Word.{Word}
 use Rattle.tokens.specs.Words.{wordsFrom, wordWith, longer, wordOf, isNumber, isSigned, signedValue}
 use Rattle.drafts.specs.declared.Draft.{Draft}
 use Rattle.drafts.specs.Drafts.{draft, begun, started}
-use Rattle.drafts.specs.Steps.{step}
+use Rattle.fitting.specs.Steps.{step}
 use Rattle.commands.specs.declared.Command.{Command}
 use Rattle.commands.specs.Commands.{finished, stepOver, readCommand}
 use Rattle.spelling.specs.Spelling.{signedDecimal, sliceName, flagNames, isSet, flagWords, callWords, spaced, sayCommand}

@@ -1,0 +1,56 @@
+-- `fitting::layer_word` meets its contract: each way out knows which test decided.
+-- Assumes nothing.
+use Rattle.tokens.proofs.Numbers.{number-most}
+use native.Mathlib.Omega.{arith}
+use mathlib.Core.Path.{sym, _∙_}
+use borrow.Author.Needs.{needs}
+use Rattle.fitting.proofs.layer_word.Statement.{statement}
+use Rattle.fitting.proofs.layer_word.Tie as tie
+
+is-number-requires : tie.Need-is-number-requires
+is-number-requires c κs = search needs
+
+parts-of-requires : tie.Need-parts-of-requires
+parts-of-requires c κs = search needs
+
+cast-with-layer : tie.Need-cast-with-layer
+cast-with-layer c =
+    let test = c .before .before in
+    let asked = test .before in
+    let start = asked .before in
+    let most = number-most (start .args .w) 255 (sym (asked .is-number .ensures) ∙ test .if1 .taken) in
+    omega arith
+
+with-layer-requires : tie.Need-with-layer-requires
+with-layer-requires c κs = search needs
+
+returns : tie.Need-returns
+returns c =
+    let done = c in
+    let parts = done .before .before in
+    let test1 = parts .before in
+    let asked = test1 .before in
+    rw (sym (asked .is-number .ensures) ∙ test1 .if1 .taken, ← parts .parts-of .ensures) (done .with-layer .ensures)
+
+failed-requires : tie.Need-failed-requires
+failed-requires c κs = search needs
+
+returns-2 : tie.Need-returns-2
+returns-2 c =
+    let done = c in
+    let test1 = done .before in
+    let asked = test1 .before in
+    let start = asked .before in
+    rw (sym (asked .is-number .ensures) ∙ test1 .if1 .left) (done .failed .ensures)
+
+pub layer-word-spec : {M : Type 1} → statement M
+layer-word-spec =
+    tie.close
+    (tie.spec
+    is-number-requires
+    parts-of-requires
+    cast-with-layer
+    with-layer-requires
+    returns
+    failed-requires
+    returns-2)
