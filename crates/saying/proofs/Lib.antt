@@ -1,2 +1,1 @@
-pub mod WordTables
-pub mod Claims
+mod NameTable

@@ -1,9 +1,9 @@
 -- An answer line in words: `put: buffer 3, number 12`, `out: not yet`, `lists: turned down, 9, no references`.
 -- Assumes nothing.
-use Prim.Native.Nat.{ℕ, _+_, _-_, _/_, _%_}
+use Prim.Native.Nat.{ℕ}
 use mathlib.Core.Bool.{cond, not}
 use mathlib.Core.List.{List, [], _∷_, _++_}
-use lib.Dec.{leb, ltb, eqb}
+use lib.Dec.{ltb, eqb}
 use lib.ListN.{getD}
 use Rattle.phrases.specs.Phrases.{chars, decimalFrom, decimal}
 use Rattle.hex.specs.Hex.{bytesOf, sum8}
@@ -12,38 +12,8 @@ use Rattle.line.specs.declared.Reply.{Reply}
 use Rattle.line.specs.Answers.{answerKind, noBuffer}
 use Rattle.answers.specs.declared.AnswerLine.{AnswerLine}
 use Rattle.answers.specs.Answers.{answerFor}
-
--- The words of the refusals by number. What stands first is for a number that no refusal has; 10 and 12 are withdrawn.
-abbrev pub words : List (List ℕ)
-words =
-    chars "unknown"
-    ∷ chars "size too big"
-    ∷ chars "rack full"
-    ∷ chars "picture still out"
-    ∷ chars "nothing out"
-    ∷ chars "slot taken"
-    ∷ chars "number too high"
-    ∷ chars "torn rack"
-    ∷ chars "too many references"
-    ∷ chars "no references"
-    ∷ chars "withdrawn"
-    ∷ chars "forward list empty"
-    ∷ chars "withdrawn"
-    ∷ chars "twin"
-    ∷ chars "no such place"
-    ∷ chars "bad layer"
-    ∷ chars "bad record"
-    ∷ chars "bad length"
-    ∷ chars "bad line"
-    ∷ chars "bad plan"
-    ∷ chars "no room"
-    ∷ []
-
-abbrev pub wordPlace : ℕ → ℕ
-wordPlace status = cond (leb status 20) status 0
-
-unfoldable pub statusWord : ℕ → List ℕ
-statusWord status = getD words (wordPlace status) []
+use Rattle.wording.specs.Words.{statusWord}
+use Rattle.showing.specs.Shown.{pictureWords, countWords, signedWords}
 
 -- The calls by their byte; 0 is a line that was no call, and another byte is shown.
 abbrev pub names : List (List ℕ)
@@ -53,18 +23,9 @@ unfoldable pub callName : ℕ → List ℕ
 unfolding decimalFrom
 callName call = cond (ltb call 7) (getD names call []) (chars "call " ++ decimal call)
 
--- What a refusal, a picture, the counts of the lists and a derived number look like; that one is in two's complement.
+-- What a refusal looks like.
 abbrev pub turnedDown : ℕ → List ℕ
 turnedDown status = chars "turned down, " ++ (decimal status ++ (chars ", " ++ statusWord status))
-
-abbrev pub pictureWords : ℕ → ℕ → List ℕ
-pictureWords buf value = chars "buffer " ++ (decimal buf ++ (chars ", number " ++ decimal value))
-
-abbrev pub countWords : ℕ → List ℕ
-countWords value = decimal (value / 256) ++ (chars " forward, " ++ (decimal (value % 256) ++ chars " backward"))
-
-abbrev pub signedWords : ℕ → List ℕ
-signedWords value = cond (leb value 2147483647) (chars "number " ++ decimal value) (chars "number -" ++ decimal (4294967296 - value))
 
 -- What was done: a picture where the answer names a buffer, else what its call gives.
 abbrev pub doneWords : Reply → List ℕ

@@ -3,7 +3,7 @@
 use borrow.Author.Tests.{lt-ltb}
 use Rattle.saying.specs.Words.{callName}
 use native.Mathlib.Omega.{arith}
-use Rattle.saying.proofs.WordTables.{name-at, name-short}
+use Rattle.saying.proofs.NameTable.{name-at, name-short}
 use borrow.Author.Needs.{needs}
 use Rattle.saying.proofs.add_known_name.Statement.{statement}
 use Rattle.saying.proofs.add_known_name.Tie as tie

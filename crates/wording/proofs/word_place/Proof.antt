@@ -1,9 +1,9 @@
--- `saying::word_place` meets its contract.
+-- `wording::word_place` meets its contract.
 -- Assumes nothing.
 use borrow.Author.Needs.{needs}
 use borrow.Author.Tests.{le-leb, lt-leb}
-use Rattle.saying.proofs.word_place.Statement.{statement}
-use Rattle.saying.proofs.word_place.Tie as tie
+use Rattle.wording.proofs.word_place.Statement.{statement}
+use Rattle.wording.proofs.word_place.Tie as tie
 
 returns : tie.Need-returns
 returns c = (rw (le-leb (c .before .args .status) 20 (c .if1 .taken)), search needs)

@@ -1,10 +1,10 @@
--- `saying::add_picture` meets its contract: its parts stand one behind the other.
+-- `showing::add_picture` meets its contract: its parts stand one behind the other.
 -- Assumes nothing.
 use native.Mathlib.Omega.{arith}
 use Rattle.phrases.proofs.Adding.{added-then}
 use borrow.Author.Needs.{needs}
-use Rattle.saying.proofs.add_picture.Statement.{statement}
-use Rattle.saying.proofs.add_picture.Tie as tie
+use Rattle.showing.proofs.add_picture.Statement.{statement}
+use Rattle.showing.proofs.add_picture.Tie as tie
 
 slice-aggregate-add : tie.Need-slice-aggregate-add
 slice-aggregate-add c = search needs

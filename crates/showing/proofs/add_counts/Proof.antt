@@ -1,10 +1,10 @@
--- `saying::add_counts` meets its contract: its parts stand one behind the other.
+-- `showing::add_counts` meets its contract: its parts stand one behind the other.
 -- Assumes nothing.
 use native.Mathlib.Omega.{arith}
 use Rattle.phrases.proofs.Adding.{added-then}
 use borrow.Author.Needs.{needs}
-use Rattle.saying.proofs.add_counts.Statement.{statement}
-use Rattle.saying.proofs.add_counts.Tie as tie
+use Rattle.showing.proofs.add_counts.Statement.{statement}
+use Rattle.showing.proofs.add_counts.Tie as tie
 
 cast-add-number : tie.Need-cast-add-number
 cast-add-number c = search needs

@@ -7,7 +7,7 @@ use Rattle.phrases.specs.Phrases.{chars}
 use Rattle.def.specs.declared.Refusal.{Refusal}
 use Rattle.def.specs.declared.Refusal.the-variants.{SizeTooBig, StoreFull, PictureLeased, NoLease, SlotTaken, NumberTooHigh, StateNotWhole, TooManyReferences, NoReferences, ForwardListEmpty, SameNumber, NoSuchPlace, BadLayer, BadRecord, BadLength, BadLine, BadPlan, NoRoom}
 use Rattle.def.specs.Refusals.{refusalNumber}
-use Rattle.saying.specs.Words.{statusWord}
+use Rattle.wording.specs.Words.{statusWord}
 
 -- The trade's word for each refusal.
 abbrev pub refusalWord : Refusal → List ℕ

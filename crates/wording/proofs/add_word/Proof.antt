@@ -1,15 +1,15 @@
--- `saying::add_word` meets its contract: the entry of a status is its word.
+-- `wording::add_word` meets its contract: the entry of a status is its word.
 -- Assumes nothing.
 use Prim.Native.Nat.{ℕ}
 use mathlib.Core.List.{[]}
 use lib.ListN.{getD}
-use Rattle.saying.specs.Words.{words, statusWord}
+use Rattle.wording.specs.Words.{words, statusWord}
 use mathlib.Core.Path.{ap, _∙_}
 use native.Mathlib.Omega.{arith}
-use Rattle.saying.proofs.WordTables.{word-at, word-short}
+use Rattle.wording.proofs.WordTable.{word-at, word-short}
 use borrow.Author.Needs.{needs}
-use Rattle.saying.proofs.add_word.Statement.{statement}
-use Rattle.saying.proofs.add_word.Tie as tie
+use Rattle.wording.proofs.add_word.Statement.{statement}
+use Rattle.wording.proofs.add_word.Tie as tie
 
 word-place-requires : tie.Need-word-place-requires
 word-place-requires c κs = search needs

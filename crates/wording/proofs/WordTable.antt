@@ -1,4 +1,4 @@
--- The flat tables of the code are those of the definitions.
+-- The flat table of the code is that of the definition.
 -- Assumes nothing.
 use Prim.Native.Nat.{ℕ, _≤_, _<_}
 use mathlib.Core.Path.{_≡_, refl}
@@ -7,7 +7,7 @@ use lib.ListN.{getD}
 use Rattle.seq.specs.Lists.{entries, entriesFrom}
 use Rattle.phrases.specs.Phrases.{chars, entryOf}
 use Rattle.phrases.proofs.Tables.{text-at, short-at}
-use Rattle.saying.specs.Words.{words, names}
+use Rattle.wording.specs.Words.{words}
 
 abbrev pub wordTable : List ℕ
 wordTable =
@@ -23,17 +23,3 @@ word-at k h = text-at wordTable wordLengths 20 21 words refl k h
 pub word-short : (k : ℕ) → k < 21 → getD wordLengths k 0 ≤ 20
 unfolding entries entriesFrom
 word-short k h = short-at wordTable wordLengths 20 21 refl k h
-
-abbrev pub nameTable : List ℕ
-nameTable = chars "line  init  get   put   out   lists derive"
-
-abbrev pub nameLengths : List ℕ
-nameLengths = 4 ∷ 4 ∷ 3 ∷ 3 ∷ 3 ∷ 5 ∷ 6 ∷ []
-
-pub name-at : (k : ℕ) → k < 7 → entryOf nameTable 6 k (getD nameLengths k 0) ≡ getD names k []
-unfolding entries entriesFrom
-name-at k h = text-at nameTable nameLengths 6 7 names refl k h
-
-pub name-short : (k : ℕ) → k < 7 → getD nameLengths k 0 ≤ 6
-unfolding entries entriesFrom
-name-short k h = short-at nameTable nameLengths 6 7 refl k h

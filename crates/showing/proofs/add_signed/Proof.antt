@@ -1,11 +1,11 @@
--- `saying::add_signed` meets its contract.
+-- `showing::add_signed` meets its contract.
 -- Assumes nothing.
 use borrow.Author.Tests.{le-leb, lt-leb}
 use native.Mathlib.Omega.{arith}
 use Rattle.phrases.proofs.Adding.{added-then}
 use borrow.Author.Needs.{needs}
-use Rattle.saying.proofs.add_signed.Statement.{statement}
-use Rattle.saying.proofs.add_signed.Tie as tie
+use Rattle.showing.proofs.add_signed.Statement.{statement}
+use Rattle.showing.proofs.add_signed.Tie as tie
 
 slice-aggregate-add : tie.Need-slice-aggregate-add
 slice-aggregate-add c = search needs

@@ -15,8 +15,8 @@ use Rattle.seq.proofs.Rows.{entry}
 use Rattle.def.specs.declared.Refusal.{Refusal}
 use Rattle.def.specs.Refusals.{refusalNumber, numberInUse, NumberInUse}
 use Rattle.def.proofs.Refusals.{refusals-in-use}
-use Rattle.saying.specs.Words.{words, statusWord}
-use Rattle.saying.specs.Claims.{EachHasItsWord, NoOtherShowsIt}
+use Rattle.wording.specs.Words.{words, statusWord}
+use Rattle.wording.specs.Claims.{EachHasItsWord, NoOtherShowsIt}
 
 pub each-has-its-word : EachHasItsWord
 unfolding statusWord

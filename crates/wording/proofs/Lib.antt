@@ -1,0 +1,2 @@
+mod WordTable
+pub mod Claims
