@@ -14,11 +14,13 @@ use Rattle.phrases.proofs.Adding.{added-length, added-front}
 use Rattle.asking.specs.Asked.{Texts, texts}
 use Rattle.telling.specs.declared.{Kind.Kind, Spot.Spot, Spoken.Spoken}
 use Rattle.telling.specs.Told.{joined, toldLines, toldInput}
-use Rattle.relaying.specs.declared.{Went.Went, Handed.Handed}
+use Rattle.delivering.specs.declared.{Went.Went, Handed.Handed}
 use Rattle.telling.specs.Telling.{Speaker, speaker, speakerIn, Fed, feed, ToldPiece}
-use Rattle.relaying.specs.declared.Went.the-variants.{On, InputEnded, ReadFailed, WriteFailed}
-use Rattle.relaying.specs.Relaying.{Idle, broughtBy, Turned, givenBy, Turns, one-turn, next-turn, lastNewline, newHeld, newSpot}
-use Rattle.relaying.proofs.Chain.{turns-keep}
+use Rattle.delivering.specs.declared.Went.the-variants.{On, InputEnded, ReadFailed, WriteFailed}
+use Rattle.delivering.specs.Delivering.{lastNewline}
+use Rattle.conveying.specs.Conveying.{Idle, broughtBy, Turned, givenBy, Turns, one-turn, next-turn}
+use Rattle.relaying.specs.Relaying.{newHeld, newSpot}
+use Rattle.conveying.proofs.Chain.{turns-keep}
 use Rattle.relayed.specs.Claims.{RelayTells, RelayBegins}
 use Rattle.relayed.proofs.Lines.{lastTexts, feed-lines, feed-append, joined-assoc}
 

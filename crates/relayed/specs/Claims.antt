@@ -6,8 +6,9 @@ use mathlib.Core.List.{List, _++_}
 use Rattle.asking.specs.Asked.{Texts}
 use Rattle.telling.specs.declared.Kind.{Kind}
 use Rattle.telling.specs.Told.{joined, toldInput}
-use Rattle.relaying.specs.declared.Handed.{Handed}
-use Rattle.relaying.specs.Relaying.{givenBy, Looped, Served, newHeld, newSpot}
+use Rattle.delivering.specs.declared.Handed.{Handed}
+use Rattle.conveying.specs.Conveying.{givenBy, Looped, Served}
+use Rattle.relaying.specs.Relaying.{newHeld, newSpot}
 
 -- Where the input has ended, what was given to be written, one part behind the other, is what its lines give, each once and in order.
 abbrev pub RelayTells : Type 0

@@ -1,8 +1,8 @@
 // Runs stored commands and answers through the loop of the two programs, messages and all to standard output.
 //
 // What `stdout` has for them was not made by these programs: it was written from the definitions.
+use delivering::Pipes;
 use libc::STDOUT_FILENO;
-use relaying::Pipes;
 use telling::Kind;
 
 fn run(kind: Kind, path: &[u8]) {

@@ -1,11 +1,11 @@
--- `relaying::give` meets its contract.
+-- `delivering::give` meets its contract.
 -- Assumes nothing.
-use Rattle.relaying.specs.Relaying.{taken, failed}
+use Rattle.delivering.specs.Delivering.{taken, failed}
 use lib.Seq.{length-take-le}
 use mathlib.Core.Path.{sym}
 use borrow.Author.Needs.{needs}
-use Rattle.relaying.proofs.give.Statement.{statement}
-use Rattle.relaying.proofs.give.Tie as tie
+use Rattle.delivering.proofs.give.Statement.{statement}
+use Rattle.delivering.proofs.give.Tie as tie
 
 slice-aggregate-write-all : tie.Need-slice-aggregate-write-all
 slice-aggregate-write-all c = sym (length-take-le _ _ (c .before .before .before .before .before .pre .1))

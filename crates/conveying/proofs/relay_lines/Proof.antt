@@ -1,11 +1,11 @@
--- `relaying::relay_lines` meets its contract: the turns, and at the end of the input its last line.
+-- `conveying::relay_lines` meets its contract: the turns, and at the end of the input its last line.
 -- Assumes nothing.
-use Rattle.relaying.proofs.Chain.{turns-keep, relayed-to-end, relayed-before-end}
+use Rattle.conveying.proofs.Chain.{turns-keep, relayed-to-end, relayed-before-end}
 use mathlib.Core.Path.{sym, _∙_}
 use native.Mathlib.Omega.{arith}
 use borrow.Author.Needs.{needs}
-use Rattle.relaying.proofs.relay_lines.Statement.{statement}
-use Rattle.relaying.proofs.relay_lines.Tie as tie
+use Rattle.conveying.proofs.relay_lines.Statement.{statement}
+use Rattle.conveying.proofs.relay_lines.Tie as tie
 
 turns-requires : tie.Need-turns-requires
 turns-requires c κs = search needs

@@ -5,20 +5,20 @@ use native.Mathlib.Omega.{arith}
 use mathlib.Core.Path.{_≡_, refl, sym, ap, subst, _∙_}
 use mathlib.Core.Bool.{true, false}
 use mathlib.Core.Bool as Bool
-use mathlib.Core.List.{List, [], _∷_}
+use mathlib.Core.List.{List}
 use lib.IntN.{ℤ, pos}
 use lib.Signed.{ltZ}
 use lib.ListN.{length, take}
-use borrow.Author.Tests.{eq-eqb, ne-eqb}
 use Rattle.io.specs.Counts.{clamped}
 use Rattle.reading.specs.declared.Heard.{Heard}
 use Rattle.reading.specs.Reading.{Patient}
 use Rattle.asking.specs.Asked.{Texts}
 use Rattle.telling.specs.declared.{Kind.Kind, Spot.Spot, Spoken.Spoken}
-use Rattle.telling.specs.Telling.{Keeps, feed, ToldPiece}
-use Rattle.relaying.specs.declared.{Went.Went, Handed.Handed}
-use Rattle.relaying.specs.declared.Went.the-variants.{On, InputEnded, ReadFailed, WriteFailed}
-use Rattle.relaying.specs.Relaying.{Given, taken, failed, TurnRoom, idleHanded, Idle, Turned, isOn, Turns, one-turn, next-turn, mostTurns, Looped, lastNewline, Ended, isEnd, Relayed, to-the-end, stopped}
+use Rattle.telling.specs.Telling.{Keeps, ToldPiece}
+use Rattle.delivering.specs.declared.{Went.Went, Handed.Handed}
+use Rattle.delivering.specs.declared.Went.the-variants.{On, InputEnded, ReadFailed, WriteFailed}
+use Rattle.delivering.specs.Delivering.{Given, taken, failed, idleHanded, isOn, Ended, isEnd}
+use Rattle.conveying.specs.Conveying.{TurnRoom, Idle, Turned, Turns, one-turn, next-turn, mostTurns, Looped, Relayed, to-the-end, stopped}
 
 pub idle-turn : (held : List ℕ) (spot : Spot) (t : Handed) (h : Heard) (w : Went) → t ≡ idleHanded spot h w → Patient h → Idle held spot t held
 idle-turn held spot t h w e p = rw e (record { same-held = refl; handed = refl; heard-out = p })
@@ -30,32 +30,6 @@ pub told-turn : {kind : Kind} {held out err held′ out′ err′ : List ℕ} (p
     → Turned (r .went) kind held spot out err r held′ piece out′ err′
 told-turn piece e z told p taken = record { told = rw (e, z) at told; some-brought = p }
 told-turn piece e z told p failed = record { told = rw (e, z) at told; some-brought = p }
-
--- The end of the input: no line was begun, or the last one is told, whatever became of the write.
-pub no-last : {kind : Kind} {held out err : List ℕ} {last : Handed} (t : Handed) (h : Heard) (w : Went) → Keeps held (last .spoken .spot .len) → last .spoken .spot .len ≡ 0
-    → t ≡ idleHanded (last .spoken .spot) h w → Ended kind held last out err t held out err
-unfolding feed
-no-last {kind} {held} {out} {err} {last} t h w k e f =
-    let s = last .spoken .spot in
-    let none : lastNewline (s .len) ≡ [] = rw (eq-eqb (s .len) 0 e) in
-    record {
-      told =
-          rw (none, f)
-          (record {
-            speaker-is = refl;
-            keeps = k;
-            to-out = record { holds = refl; behind = refl };
-            to-err = record { holds = refl; behind = refl };
-            out-fits = omega arith;
-            err-fits = omega arith;
-          });
-    }
-
-pub last-told : {kind : Kind} {held out err held′ out′ err′ : List ℕ} {last r : Handed} {next : Spoken} {h : Heard}
-    → (last .spoken .spot .len ≡ 0 → ⊥) → ToldPiece kind held (last .spoken .spot) (10 ∷ []) out err next held′ out′ err′
-    → Given r (record { spoken = next; heard = h; went = InputEnded }) → Ended kind held last out err r held′ out′ err′
-last-told {last} e t taken = record { told = rw (ne-eqb (last .spoken .spot .len) 0 e) t }
-last-told {last} e t failed = record { told = rw (ne-eqb (last .spoken .spot .len) 0 e) t }
 
 pub still-keeps : (kind : Kind) {held : List ℕ} (spot : Spot) (out err : List ℕ) (t : Handed) (held′ piece′ out′ err′ : List ℕ) → Keeps held (spot .len)
     → (w : Went) → Turned w kind held spot out err t held′ piece′ out′ err′ → Keeps held′ (t .spoken .spot .len)

@@ -1,4 +1,4 @@
--- `relaying::turns` meets its contract: turn after turn, each on what the one before left. The measure is how many turns are left.
+-- `conveying::turns` meets its contract: turn after turn, each on what the one before left. The measure is how many turns are left.
 -- Assumes nothing.
 use Prim.Native.Nat.{ℕ, _+_, _-_, _≤_}
 use native.Mathlib.Omega.{arith}
@@ -8,10 +8,11 @@ use mathlib.Core.List.{List}
 use lib.ListN.{length}
 use borrow.Author.Needs.{needs}
 use Rattle.telling.specs.declared.Spot.{Spot}
-use Rattle.relaying.specs.Relaying.{TurnRoom, isOn, mostTurns}
-use Rattle.relaying.proofs.Chain.{still-room, Reached, reach-first, reach-next, renumber, looped}
-use Rattle.relaying.proofs.turns.Statement.{statement}
-use Rattle.relaying.proofs.turns.Tie as tie
+use Rattle.delivering.specs.Delivering.{isOn}
+use Rattle.conveying.specs.Conveying.{TurnRoom, mostTurns}
+use Rattle.conveying.proofs.Chain.{still-room, Reached, reach-first, reach-next, renumber, looped}
+use Rattle.conveying.proofs.turns.Statement.{statement}
+use Rattle.conveying.proofs.turns.Tie as tie
 
 abbrev Inv-loop : tie.InvT-loop
 Inv-loop kind held₀ pipes piece₀ out₀ err₀ handed₀ left₀ held piece out err handed left =

@@ -1,14 +1,14 @@
--- `relaying::turn` meets its contract: nothing was read, or what was read was told.
+-- `conveying::turn` meets its contract: nothing was read, or what was read was told.
 -- Assumes nothing.
-use Rattle.relaying.proofs.Chain.{idle-turn, told-turn}
+use Rattle.conveying.proofs.Chain.{idle-turn, told-turn}
 use Rattle.phrases.proofs.Adding.{added-length}
 use Rattle.reading.proofs.Signs.{is-zero, is-positive}
 use mir.Val.{toZ, ofZ}
 use mir.Syntax.{w64}
 use mathlib.Core.Path.{_≡_, refl}
 use borrow.Author.Needs.{needs}
-use Rattle.relaying.proofs.turn.Statement.{statement}
-use Rattle.relaying.proofs.turn.Tie as tie
+use Rattle.conveying.proofs.turn.Statement.{statement}
+use Rattle.conveying.proofs.turn.Tie as tie
 
 read-some-requires : tie.Need-read-some-requires
 read-some-requires c κs = search needs

@@ -1,9 +1,9 @@
--- `relaying::finish` meets its contract.
+-- `delivering::finish` meets its contract.
 -- Assumes nothing.
-use Rattle.relaying.proofs.Chain.{no-last, last-told}
+use Rattle.delivering.proofs.Last.{no-last, last-told}
 use borrow.Author.Needs.{needs}
-use Rattle.relaying.proofs.finish.Statement.{statement}
-use Rattle.relaying.proofs.finish.Tie as tie
+use Rattle.delivering.proofs.finish.Statement.{statement}
+use Rattle.delivering.proofs.finish.Tie as tie
 
 idle-requires : tie.Need-idle-requires
 idle-requires c κs = search needs
