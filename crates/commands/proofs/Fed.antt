@@ -13,7 +13,7 @@ use borrow.Author.Tests.{ne-eqb}
 use Rattle.tokens.specs.declared.Word.{Word}
 use Rattle.tokens.specs.Words.{isSpace, isHash, isSign, codeWith, valueWith, wordWith, emptyWord, longer, wordOf, lastWord, wordsFrom}
 use Rattle.drafts.specs.declared.Draft.{Draft}
-use Rattle.drafts.specs.Drafts.{begun}
+use Rattle.progress.specs.Progress.{begun}
 use Rattle.fitting.specs.Steps.{step}
 use Rattle.commands.specs.declared.Reading.{Reading}
 use Rattle.commands.specs.Commands.{stepOver, finished, readCommand}

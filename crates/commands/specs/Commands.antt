@@ -10,7 +10,7 @@ use Rattle.line.specs.declared.Call.the-variants.{Init, GetEmptyPic, PutPic, Ou
 use Rattle.line.specs.Claims.{CallFits}
 use Rattle.tokens.specs.Words.{wordOf, wordsFrom}
 use Rattle.drafts.specs.declared.Draft.{Draft}
-use Rattle.drafts.specs.Drafts.{begun, isComplete}
+use Rattle.progress.specs.Progress.{begun, isComplete}
 use Rattle.fitting.specs.Steps.{step}
 use Rattle.commands.specs.declared.Command.{Command}
 

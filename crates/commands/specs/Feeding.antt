@@ -7,7 +7,7 @@ use Rattle.tokens.specs.declared.Word.{Word}
 use Rattle.drafts.specs.declared.Draft.{Draft}
 use Rattle.commands.specs.declared.Reading.{Reading}
 use Rattle.tokens.specs.Words.{isSpace, isHash, emptyWord, longer}
-use Rattle.drafts.specs.Drafts.{begun}
+use Rattle.progress.specs.Progress.{begun}
 use Rattle.fitting.specs.Steps.{step}
 
 abbrev pub reading : Draft → Word → Bool → Reading

@@ -1,10 +1,10 @@
 // Commands: a line of words that stands for a call, `put 5 ref out` for one. The characters go one by one through `feed`, so a line
 // needs no room; what a word means is known when it ends.
 use drafts::Draft;
-use drafts::begun;
-use drafts::is_complete;
 use fitting::step;
 use line::Call;
+use progress::begun;
+use progress::is_complete;
 use tokens::Word;
 use tokens::longer;
 use tokens::no_word;

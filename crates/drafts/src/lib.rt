@@ -1,9 +1,9 @@
-// A command of which some words were read: which word is wanted next, and what was given. Crates `naming` and `fitting` take the words.
+// A command of which some words were read: which word is wanted next, and each field given. Crate `progress` says how far it is, crates `naming`
+// and `fitting` take the words.
 ghost use mathlib.Core.Path.{_≡_};
-ghost use Prim.Native.Nat.{_<_};
-ghost use Rattle.drafts.specs.Drafts.{begun, started, failed, withFirst, withNumber, withLayer, withSpan, withLimit, withGiven, marked, isComplete};
+ghost use Rattle.drafts.specs.Drafts.{started, withFirst, withNumber, withLayer, withSpan, withLimit, withGiven};
 
-// Which word is wanted next. A draft that a word did not fit has FAILED more.
+// Which word is wanted next. A draft that a word did not fit has 16 more (`progress::failed`).
 pub const COMMAND: u8 = 0;
 
 pub const FIRST: u8 = 1;
@@ -29,8 +29,6 @@ pub const INTRA: u8 = 10;
 pub const LIMIT: u8 = 11;
 
 pub const END: u8 = 12;
-
-const FAILED: u8 = 16;
 
 // The usual list limit.
 const USUAL_LIMIT: u8 = 21;
@@ -62,32 +60,6 @@ pub fn started(call: u8, want: u8) -> Draft
         span: 0,
         limit: USUAL_LIMIT,
     }
-}
-
-// No word yet.
-pub fn begun() -> Draft
-    ensures { λ r. ⌜ r ≡ begun ⌝ }
-{
-    started(0, COMMAND)
-}
-
-// A word came that does not fit; the first one counts.
-pub fn failed(d: Draft) -> Draft
-    ensures { λ r. ⌜ r ≡ failed d ⌝ }
-{
-    if d.want < FAILED {
-        return Draft {
-            call: d.call,
-            want: d.want + FAILED,
-            given: d.given,
-            first: d.first,
-            number: d.number,
-            layer: d.layer,
-            span: d.span,
-            limit: d.limit,
-        };
-    }
-    d
 }
 
 pub fn with_first(d: Draft, n: u8, want: u8) -> Draft
@@ -165,7 +137,7 @@ pub fn with_limit(d: Draft, n: u8, want: u8) -> Draft
     }
 }
 
-fn with_given(d: Draft, given: u8, want: u8) -> Draft
+pub fn with_given(d: Draft, given: u8, want: u8) -> Draft
     ensures { λ r. ⌜ r ≡ withGiven d given want ⌝ }
 {
     Draft {
@@ -178,21 +150,4 @@ fn with_given(d: Draft, given: u8, want: u8) -> Draft
         span: d.span,
         limit: d.limit,
     }
-}
-
-// A part is given, unless it was.
-pub fn marked(d: Draft, part: u8, want: u8) -> Draft
-    requires { ⌜ 0 < part ⌝ }
-    ensures { λ r. ⌜ r ≡ marked d part want ⌝ }
-{
-    if d.given / part % 2 == 0 {
-        return with_given(d, std::num::wrapping_add_u8(d.given, part), want);
-    }
-    failed(d)
-}
-
-pub fn is_complete(want: u8) -> bool
-    ensures { λ r. ⌜ r ≡ isComplete want ⌝ }
-{
-    (want == PUT_PARTS) | ((want == LIST_PARTS) | (want == END))
 }

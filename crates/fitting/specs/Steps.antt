@@ -8,7 +8,8 @@ use lib.ListN.{getD}
 use Rattle.tokens.specs.declared.Word.{Word}
 use Rattle.tokens.specs.Words.{isNumber, isSigned, signedValue}
 use Rattle.drafts.specs.declared.Draft.{Draft}
-use Rattle.drafts.specs.Drafts.{failed, withFirst, withNumber, withLayer, withSpan, withLimit}
+use Rattle.drafts.specs.Drafts.{withFirst, withNumber, withLayer, withSpan, withLimit}
+use Rattle.progress.specs.Progress.{failed}
 use Rattle.naming.specs.Names.{byte, word, commandWord, sliceWord, pictureWord, putPart, listPart}
 
 abbrev pub firstWord : Draft → Word → Draft

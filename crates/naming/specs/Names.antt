@@ -9,7 +9,8 @@ use Rattle.phrases.specs.Phrases.{chars}
 use Rattle.tokens.specs.declared.Word.{Word}
 use Rattle.tokens.specs.Words.{codeWith, isNumber}
 use Rattle.drafts.specs.declared.Draft.{Draft}
-use Rattle.drafts.specs.Drafts.{started, failed, withFirst, withNumber, marked}
+use Rattle.drafts.specs.Drafts.{started, withFirst, withNumber}
+use Rattle.progress.specs.Progress.{failed, marked}
 
 -- Whether a word is this one.
 abbrev pub is : String → Word → Bool

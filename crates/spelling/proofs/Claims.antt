@@ -18,7 +18,8 @@ use Rattle.phrases.specs.Phrases.{chars, decimal}
 use Rattle.tokens.specs.declared.Word.{Word}
 use Rattle.tokens.specs.Words.{wordsFrom, wordWith, longer, wordOf, isNumber, isSigned, signedValue}
 use Rattle.drafts.specs.declared.Draft.{Draft}
-use Rattle.drafts.specs.Drafts.{draft, begun, started}
+use Rattle.drafts.specs.Drafts.{draft, started}
+use Rattle.progress.specs.Progress.{begun}
 use Rattle.fitting.specs.Steps.{step}
 use Rattle.commands.specs.declared.Command.{Command}
 use Rattle.commands.specs.Commands.{finished, stepOver, readCommand}

@@ -3,7 +3,7 @@
 use mathlib.Core.List.{[], _∷_}
 use Rattle.tokens.specs.declared.Word.{Word}
 use Rattle.drafts.specs.declared.Draft.{Draft}
-use Rattle.drafts.specs.Drafts.{failed}
+use Rattle.progress.specs.Progress.{failed}
 use Rattle.naming.specs.Names.{commandWord, sliceWord, pictureWord, putPart, listPart}
 use Rattle.fitting.specs.Steps.{firstWord, secondWord, numberWord, layerWord, gapWord, intraWord, limitWord, step}
 use mathlib.Core.Path.{_≡_, sym, _∙_}

@@ -1,10 +1,10 @@
--- `drafts::marked` meets its contract.
+-- `progress::marked` meets its contract.
 -- Assumes nothing.
 use Prim.Native.Nat.{_/_, _%_}
 use borrow.Author.Tests.{eq-eqb, ne-eqb}
 use borrow.Author.Needs.{needs}
-use Rattle.drafts.proofs.marked.Statement.{statement}
-use Rattle.drafts.proofs.marked.Tie as tie
+use Rattle.progress.proofs.marked.Statement.{statement}
+use Rattle.progress.proofs.marked.Tie as tie
 
 div-if1 : tie.Need-div-if1
 div-if1 c = search needs

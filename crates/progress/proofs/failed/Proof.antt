@@ -1,9 +1,9 @@
--- `drafts::failed` meets its contract.
+-- `progress::failed` meets its contract.
 -- Assumes nothing.
 use borrow.Author.Tests.{lt-ltb, le-ltb}
 use borrow.Author.Needs.{needs}
-use Rattle.drafts.proofs.failed.Statement.{statement}
-use Rattle.drafts.proofs.failed.Tie as tie
+use Rattle.progress.proofs.failed.Statement.{statement}
+use Rattle.progress.proofs.failed.Tie as tie
 
 add-t3 : tie.Need-add-t3
 add-t3 c = search needs
