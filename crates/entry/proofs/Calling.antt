@@ -18,9 +18,9 @@ use Rattle.picman.proofs.GetKeeps.{get-keeps-whole}
 use Rattle.picman.proofs.InitLaws.{init-keeps-whole}
 use Rattle.picman.proofs.PutLaws.{put-safe}
 use Rattle.picman.proofs.OutLaws.{out-keeps-whole}
-use Rattle.entry.specs.declared.{Opened.Opened}
-use Rattle.entry.specs.Entry.{Opens}
-use Rattle.entry.proofs.Opening.{came-whole, came-broken, opened-is, came-long}
+use Rattle.opening.specs.declared.{Opened.Opened}
+use Rattle.opening.specs.Opening.{Opens}
+use Rattle.opening.proofs.Opening.{came-whole, came-broken, opened-is, came-long}
 
 -- A definition refuses a state that is not whole, is another one on whole states, and keeps those whole.
 pub record Defined (d on : EvcPm → PmResult) : Type 0 where

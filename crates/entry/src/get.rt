@@ -1,11 +1,11 @@
 // Get by value: the lowest idle picture is leased, else a new one.
-use crate::finished;
-use crate::not_whole;
-use crate::open_state;
 use def::EvcPm;
 use def::PmResult;
 use keys::ROWS;
 use keys::SLOTS;
+use opening::finished;
+use opening::not_whole;
+use opening::open_state;
 ghost use mathlib.Core.Path.{_≡_};
 ghost use Rattle.picman.specs.Get.{get};
 

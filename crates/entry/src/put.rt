@@ -1,7 +1,4 @@
 // Put by value: marking, then the leased picture goes into the store.
-use crate::finished;
-use crate::not_whole;
-use crate::open_state;
 use def::EvcPm;
 use def::EvcRefP;
 use def::PmResult;
@@ -10,6 +7,9 @@ use def::REFP_PLACES;
 use entries::take_lists;
 use keys::ROWS;
 use keys::SLOTS;
+use opening::finished;
+use opening::not_whole;
+use opening::open_state;
 ghost use mathlib.Core.Path.{_≡_};
 ghost use Rattle.picman.specs.Put.{put};
 

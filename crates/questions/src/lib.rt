@@ -4,7 +4,7 @@
 use def::RefpCall;
 use def::Refusal;
 use def::refusal_number;
-use entry::why::evc_picman_why;
+use explaining::evc_picman_why;
 use image::is_image;
 use image_reading::read_pm;
 use judging::why_on;

@@ -2,7 +2,7 @@
 use mathlib.Core.Path.{_≡_, _∙_}
 use mathlib.Core.Bool.{true}
 use borrow.Author.Tests.{not-true, not-false}
-use Rattle.entry.proofs.Opening.{opened-whole}
+use Rattle.opening.proofs.Opening.{opened-whole}
 use Rattle.entry.proofs.Calling.{turned-away, still-whole, comes-to, out-defined}
 use borrow.Author.Needs.{needs}
 use Rattle.picman.proofs.OutOnKeys.{numbers-fit}

@@ -2,8 +2,8 @@
 use mathlib.Core.Path.{_≡_, refl, _∙_}
 use mathlib.Core.Bool.{true}
 use borrow.Author.Tests.{not-true, not-false}
-use Rattle.entry.specs.Entry.{Opens}
-use Rattle.entry.proofs.Opening.{opened-whole}
+use Rattle.opening.specs.Opening.{Opens}
+use Rattle.opening.proofs.Opening.{opened-whole}
 use Rattle.picman.specs.Put.{put, putWhole}
 use Rattle.entry.proofs.Calling.{Defined, turned-away, still-whole, comes-to, put-defined, put-on-lists}
 use borrow.Author.Needs.{needs}

@@ -1,6 +1,5 @@
-// The reference lists of a slice, by value.
-use crate::finished;
-use crate::open_state;
+// The reference lists of a slice, by value, with the name and the shape of the original: the entry point takes state and lists apart, tests the
+// state, calls the running core and puts both together. Any state may come: one that is not whole is handed back with its refusal.
 use def::Answer;
 use def::EvcPm;
 use def::EvcRefP;
@@ -13,6 +12,8 @@ use entries::take_lists;
 use keys::PLACES;
 use keys::ROWS;
 use keys::SLOTS;
+use opening::finished;
+use opening::open_state;
 ghost use mathlib.Core.Path.{_≡_};
 ghost use Rattle.refp.specs.Lists.{lists};
 

@@ -7,7 +7,7 @@ use mathlib.Core.List.{List}
 use Rattle.def.specs.declared.{EvcPm.EvcPm, EvcRefP.EvcRefP}
 use Rattle.keys.specs.Keys.{listsIn, stands, Sized}
 use Rattle.whole.specs.Whole.{whole}
-use Rattle.entry.specs.declared.{Opened.Opened}
+use Rattle.opening.specs.declared.{Opened.Opened}
 
 -- It is told whether the state is whole; where it is, keys, rows and rest stand for it. The lists stay.
 pub record Opens (pm : EvcPm) (lists : List EvcRefP) (keys rows : List ℕ) (o : Opened) : Type 0 where

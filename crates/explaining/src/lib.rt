@@ -1,5 +1,5 @@
-// Why a picture is or is not in the forward list of a slice, by value: the state is only read.
-use crate::open_state;
+// Why a picture is or is not in the forward list of a slice, by value, for crate `questions`: the state is taken apart, tested and only read. Any
+// state may come: one that is not whole is turned down.
 use def::EvcPm;
 use def::RefpCall;
 use def::Refusal;
@@ -7,6 +7,7 @@ use judging::why_on;
 use keys::PLACES;
 use keys::ROWS;
 use keys::SLOTS;
+use opening::open_state;
 use reasons::WhyAnswer;
 ghost use mathlib.Core.Path.{_≡_};
 ghost use Rattle.reasons.specs.Reasons.{why};

@@ -1,12 +1,13 @@
--- `entry::lists::evc_picman_refp_init` meets its contract: a state that is not whole is handed back, and else the core's call is the definition's. Assumes nothing.
+-- `listing::evc_picman_refp_init` meets its contract: a state that is not whole is handed back, and else the core's call is the definition's. Assumes nothing.
 use mathlib.Core.Path.{_≡_, refl, _∙_}
 use mathlib.Core.Bool.{true}
 use borrow.Author.Tests.{not-true, not-false}
-use Rattle.entry.specs.Entry.{Opens}
-use Rattle.entry.proofs.Opening.{lists-turned-away, lists-still-whole, lists-come-to, opened-whole}
+use Rattle.opening.specs.Opening.{Opens}
+use Rattle.opening.proofs.Opening.{opened-whole}
+use Rattle.listing.proofs.Listed.{lists-turned-away, lists-still-whole, lists-come-to}
 use borrow.Author.Needs.{needs}
-use Rattle.entry.proofs.lists.evc_picman_refp_init.Statement.{statement}
-use Rattle.entry.proofs.lists.evc_picman_refp_init.Tie as tie
+use Rattle.listing.proofs.evc_picman_refp_init.Statement.{statement}
+use Rattle.listing.proofs.evc_picman_refp_init.Tie as tie
 
 slice-aggregate-take-lists : tie.Need-slice-aggregate-take-lists
 slice-aggregate-take-lists c = search needs

@@ -1,8 +1,8 @@
--- `entry::finished` meets its contract. Assumes nothing.
+-- `opening::finished` meets its contract. Assumes nothing.
 use mathlib.Core.Path.{refl}
 use borrow.Author.Needs.{needs}
-use Rattle.entry.proofs.finished.Statement.{statement}
-use Rattle.entry.proofs.finished.Tie as tie
+use Rattle.opening.proofs.finished.Statement.{statement}
+use Rattle.opening.proofs.finished.Tie as tie
 
 put-together-requires : tie.Need-put-together-requires
 put-together-requires c κs = search needs

@@ -1,11 +1,11 @@
--- `entry::why::evc_picman_why` meets its contract: a state that is not whole is turned down, and else the keys tell what its slots would.
+-- `explaining::evc_picman_why` meets its contract: a state that is not whole is turned down, and else the keys tell what its slots would.
 -- Assumes nothing.
 use mathlib.Core.Path.{_∙_}
 use borrow.Author.Tests.{not-true, not-false}
-use Rattle.entry.proofs.Opening.{why-turned-away, why-comes-to}
+use Rattle.explaining.proofs.Explained.{why-turned-away, why-comes-to}
 use borrow.Author.Needs.{needs}
-use Rattle.entry.proofs.why.evc_picman_why.Statement.{statement}
-use Rattle.entry.proofs.why.evc_picman_why.Tie as tie
+use Rattle.explaining.proofs.evc_picman_why.Statement.{statement}
+use Rattle.explaining.proofs.evc_picman_why.Tie as tie
 
 slice-aggregate-open-state : tie.Need-slice-aggregate-open-state
 slice-aggregate-open-state c = search needs

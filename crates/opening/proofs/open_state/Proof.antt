@@ -1,8 +1,8 @@
--- `entry::open_state` meets its contract: the test on the keys is one on the state. Assumes nothing.
+-- `opening::open_state` meets its contract: the test on the keys is one on the state. Assumes nothing.
 use mathlib.Core.Path.{_∙_}
 use borrow.Author.Needs.{needs}
-use Rattle.entry.proofs.open_state.Statement.{statement}
-use Rattle.entry.proofs.open_state.Tie as tie
+use Rattle.opening.proofs.open_state.Statement.{statement}
+use Rattle.opening.proofs.open_state.Tie as tie
 
 take-apart-requires : tie.Need-take-apart-requires
 take-apart-requires c κs = search needs
