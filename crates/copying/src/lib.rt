@@ -20,7 +20,7 @@ pub fn check_copy_refp(
     let mut rows = [0u32; ROWS];
     take_lists(refp, &mut rows);
     let numbers = refp_src.list_poc;
-    let answer = refp::copy_refp(
+    let answer = adding::copy_refp(
         &mut rows,
         cnt,
         lidx,

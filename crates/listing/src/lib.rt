@@ -33,7 +33,7 @@ pub fn evc_picman_refp_init(pm: EvcPm, refp: [EvcRefP; REFP_PLACES], call: RefpC
     }
     let mut pic_ref = [0u64; SLOTS];
     let mut list = [0u64; PLACES];
-    let called = refp::refp_init(&keys, &mut rows, &mut pic_ref, &mut list, state.rest, call);
+    let called = filling::refp_init(&keys, &mut rows, &mut pic_ref, &mut list, state.rest, call);
     let done = finished(&keys, &rows, called);
     let answer = done.answer;
     let after = done.pm;

@@ -113,7 +113,7 @@ fn refp_call(keys: &[u64], rows: &mut [u32], s: Scalars, call: RefpCall) -> Made
     let mut list = [0u64; PLACES];
     made(
         REFP_INIT,
-        refp::refp_init(keys, rows, &mut order, &mut list, rest, call),
+        filling::refp_init(keys, rows, &mut order, &mut list, rest, call),
         poc,
     )
 }

@@ -57,6 +57,6 @@ pub fn place_entry(
     }
     let numbers = numbers_of(list_poc);
     let head = head_from(present, buf);
-    let answer = refp::copy_refp(rows, cnt, lidx, head, poc, &numbers);
+    let answer = adding::copy_refp(rows, cnt, lidx, head, poc, &numbers);
     line::reply_of(0, answer).status
 }
