@@ -13,7 +13,7 @@ use Rattle.def.specs.declared.Refusal.the-variants.{TooManyReferences, NoRefere
 use Rattle.def.specs.State.{listPlaces}
 use Rattle.passes.specs.declared.Walk.{Walk}
 use Rattle.ordering.specs.Order.{Key}
-use Rattle.passes.specs.Passes.{askOf}
+use Rattle.ruling.specs.Rules.{askOf}
 use Rattle.choosing.specs.Choice.{turned-down, chosen, isB, forwardWalk, forwardOf, backwardOf, withForward, choice, Backward, of-b, of-other, Accepted}
 use Rattle.choosing.proofs.BackwardSome.{backward-some}
 use Rattle.passes.proofs.Taken.{Taken, none-taken, list-taken}

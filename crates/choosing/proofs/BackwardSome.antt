@@ -7,7 +7,8 @@ use lib.ListN.{length}
 use Rattle.def.specs.declared.{RefpCall.RefpCall, SliceType.SliceType}
 use Rattle.ordering.specs.Order.{Key}
 use Rattle.passes.specs.declared.Walk.{Walk}
-use Rattle.passes.specs.Passes.{askOf, listOf}
+use Rattle.passes.specs.Passes.{listOf}
+use Rattle.ruling.specs.Rules.{askOf}
 use Rattle.passes.proofs.Backward.{backward-has-entry}
 use Rattle.choosing.specs.Choice.{isB, forwardWalk, forwardOf, backwardOf}
 

@@ -10,7 +10,8 @@ use Rattle.def.specs.State.{listPlaces}
 use Rattle.def.specs.declared.{RefpCall.RefpCall, SliceType.SliceType, Refusal.Refusal}
 use Rattle.passes.specs.declared.Walk.{Walk}
 use Rattle.ordering.specs.Order.{Key}
-use Rattle.passes.specs.Passes.{askOf, listOf}
+use Rattle.passes.specs.Passes.{listOf}
+use Rattle.ruling.specs.Rules.{askOf}
 
 pub data Chosen : Type 0 where
   turned-down : Refusal → Chosen

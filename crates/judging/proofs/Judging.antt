@@ -11,7 +11,8 @@ use Rattle.def.specs.declared.{RefpCall.RefpCall}
 use Rattle.ordering.specs.Order.{Key}
 use Rattle.ordering.specs.InNumbers.{keyIn, keysIn}
 use Rattle.passes.specs.declared.PassRule.{PassRule}
-use Rattle.passes.specs.Passes.{Ask, askOf, takesKey}
+use Rattle.passes.specs.Passes.{Ask, takesKey}
+use Rattle.ruling.specs.Rules.{askOf}
 use Rattle.passes.specs.InNumbers.{askIn, SameAsk}
 use Rattle.choosing.specs.Choice.{isB}
 use Rattle.reasons.specs.declared.{Reason.Reason}

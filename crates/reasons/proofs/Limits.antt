@@ -10,7 +10,8 @@ use lib.Seq.{take-all, take-append-le, length-take-le}
 use borrow.Author.Tests.{ltb-true, ltb-false, lt-ltb, le-ltb, le-leb, lt-leb}
 use Rattle.def.specs.declared.{Slot.Slot, RefpCall.RefpCall}
 use Rattle.ordering.specs.Order.{Key, down}
-use Rattle.passes.specs.Passes.{Ask, Progress, askOf, walked, takesKey, stepOn, passOn, pass}
+use Rattle.passes.specs.Passes.{Ask, Progress, walked, takesKey, stepOn, passOn, pass}
+use Rattle.ruling.specs.Rules.{askOf}
 use Rattle.passes.proofs.PassLaws.{step-takes, step-leaves, full-stays}
 use Rattle.passes.proofs.Taken.{pass-grows}
 use Rattle.choosing.specs.Choice.{isB}

@@ -18,7 +18,8 @@ use Rattle.whole.specs.Whole.{whole, leases}
 use Rattle.whole.proofs.Laws.{whole-rules}
 use Rattle.ordering.specs.Order.{Key, keyOf, down, MarkedKey}
 use Rattle.ordering.proofs.OrderLaws.{down-members, down-distinct}
-use Rattle.passes.specs.Passes.{askOf, walked, takesKey}
+use Rattle.passes.specs.Passes.{walked, takesKey}
+use Rattle.ruling.specs.Rules.{askOf}
 use Rattle.passes.proofs.Walked.{walked-mem}
 use Rattle.choosing.specs.Choice.{isB}
 use Rattle.choosing.proofs.Accepted.{forward-taken}

@@ -13,7 +13,8 @@ use Rattle.def.specs.State.{highestPoc, noSlot, isPresent, isMarked}
 use Rattle.def.specs.declared.{Slot.Slot, EvcPm.EvcPm, EvcRefP.EvcRefP, RefpCall.RefpCall, Refusal.Refusal}
 use Rattle.whole.specs.Whole.{whole}
 use Rattle.ordering.specs.Order.{Key}
-use Rattle.passes.specs.Passes.{Ask, askOf, sideOf, takesKey}
+use Rattle.passes.specs.Passes.{Ask, sideOf, takesKey}
+use Rattle.ruling.specs.Rules.{askOf}
 use Rattle.choosing.specs.Choice.{isB}
 use Rattle.refp.specs.Lists.{isI}
 use Rattle.reasons.specs.declared.{Reason.Reason, WhyAnswer.WhyAnswer}

@@ -14,7 +14,8 @@ use Rattle.seq.proofs.Distinct.{distinct-apart, distinct-right}
 use Rattle.seq.proofs.Orders.{sublist-mem}
 use Rattle.def.specs.declared.{RefpCall.RefpCall, SliceType.SliceType}
 use Rattle.ordering.specs.Order.{Key}
-use Rattle.passes.specs.Passes.{Ask, Progress, askOf, walked, takesKey, stepOn, passOn, pass, bothWays}
+use Rattle.passes.specs.Passes.{Ask, Progress, walked, takesKey, stepOn, passOn, pass, bothWays}
+use Rattle.ruling.specs.Rules.{askOf}
 use Rattle.passes.proofs.PassLaws.{pass-appends, step-takes, step-leaves}
 use Rattle.passes.proofs.Taken.{pass-grows, grows}
 use Rattle.passes.proofs.Sides.{one-side}

@@ -11,7 +11,8 @@ use Rattle.def.specs.State.{listPlaces, highestPoc, noSlot, noRefP, isPresent, 
 use Rattle.def.specs.declared.{Slot.Slot, EvcPm.EvcPm, EvcRefP.EvcRefP, RefpCall.RefpCall, RefpResult.RefpResult, Answer.Answer, Refusal.Refusal}
 use Rattle.whole.specs.Whole.{whole}
 use Rattle.ordering.specs.Order.{Key, down}
-use Rattle.passes.specs.Passes.{Progress, askOf, passStep}
+use Rattle.passes.specs.Passes.{Progress, passStep}
+use Rattle.ruling.specs.Rules.{askOf}
 use Rattle.choosing.specs.Choice.{isB, forwardOf}
 use Rattle.refp.specs.Lists.{isI, lists}
 use Rattle.refp.specs.Claims.{ListsReason}

@@ -10,7 +10,8 @@ use Rattle.def.specs.State.{highestPoc, noSlot, isPresent, isMarked}
 use Rattle.def.specs.declared.{Slot.Slot, EvcPm.EvcPm, RefpCall.RefpCall, Refusal.Refusal}
 use Rattle.whole.specs.Whole.{whole}
 use Rattle.ordering.specs.Order.{Key, keyOf, down}
-use Rattle.passes.specs.Passes.{Ask, Progress, askOf, walked, passStep, passOn, pass}
+use Rattle.passes.specs.Passes.{Ask, Progress, walked, passStep, passOn, pass}
+use Rattle.ruling.specs.Rules.{askOf}
 use Rattle.choosing.specs.Choice.{Chosen, turned-down, chosen, isB, choice}
 use Rattle.refp.specs.Lists.{isI}
 use Rattle.reasons.specs.declared.{Reason.Reason, WhyAnswer.WhyAnswer}
