@@ -1,8 +1,8 @@
--- A slot of the state that the keys stand for, what was chosen, and the list where a pass begins. Assumes nothing.
+-- A slot of the state that the keys stand for, and what was chosen. Assumes nothing.
 use mathlib.Core.Path.{_≡_, refl, sym, ap, _∙_}
 use mathlib.Core.Bool.{Bool, true, false}
 use mathlib.Core.Bool as Bool
-use mathlib.Core.List.{List, [], map}
+use mathlib.Core.List.{List, map}
 use Prim.Native.Nat.{ℕ, _≤_, _<_}
 use native.Mathlib.Omega.{arith}
 use lib.Dec.{ltb}
@@ -16,16 +16,12 @@ use Rattle.keys.specs.Keys.{keyMarked, slotAt}
 use Rattle.ordering.specs.Order.{Key, keyOf, down}
 use Rattle.ordering.specs.InNumbers.{keysIn}
 use Rattle.ordering.proofs.Insertion.{keys-length}
-use Rattle.passes.specs.declared.PassRule.{PassRule}
-use Rattle.passes.specs.Passes.{pass}
-use Rattle.passes.specs.InNumbers.{askIn, PassesDone}
 use Rattle.choosing.specs.Choice.{Chosen, turned-down, chosen, choice}
 use Rattle.choosing.specs.Decided.{answerOf, Decided}
 use Rattle.choosing.proofs.Accepted.{accepted}
 use Rattle.refp.specs.Lists.{isI}
 use Rattle.reasons.specs.declared.{Reason.Reason, WhyAnswer.WhyAnswer}
 use Rattle.reasons.specs.Reasons.{judgedAt, keyAt, reasonFor, ofSlot, ifChosen, whyWhole}
-use Rattle.judging.specs.Told.{Begins}
 
 module _ (rows keys : List ℕ) (slot : ℕ) where
   pub slot-there : slot < length keys → getD (map (slotAt rows) keys) slot noSlot ≡ slotAt rows (getD keys slot 0)
@@ -86,16 +82,6 @@ decided-chosen {a} {ns} {ch} d n = go ch (d .answered)
     go : (x : Chosen) → a ≡ answerOf x → IsChosen x
     go (turned-down q) e = absurd (n q e)
     go (chosen f b) e = record { fwd = f; bwd = b; is = refl }
-
--- ---- the list where a pass begins
-
-pub begins-up : {n num : ℕ} {pics before after : List ℕ} {rule : PassRule} {up : Bool} → PassesDone n (pass (askIn rule) false (keysIn num pics) []) num before after 0 → num ≤ listPlaces
-    → up ≡ true → Begins n pics num after rule up
-begins-up {n} {after = after} d few u = record {
-  as-many = rw u (sym (keys-length n after (let c = d .counted in let l = d .list-long in omega arith)) ∙ ap length (d .comes-to));
-  few = (let c = d .counted in omega arith);
-  list-long = d .list-long;
-}
 
 -- ---- the whole answer
 

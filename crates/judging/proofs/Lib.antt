@@ -1,3 +1,1 @@
-pub mod Reaching
-pub mod Judging
 pub mod Asking

@@ -1,4 +1,4 @@
-// What a slice asks of the ordered pictures, in plain numbers: by its type, its layer and the last intra picture. Crates `choosing` and `judging`
+// What a slice asks of the ordered pictures, in plain numbers: by its type, its layer and the last intra picture. Crates `choosing` and `reaching`
 // walk with what it gives.
 use def::RefpCall;
 use def::SliceType;

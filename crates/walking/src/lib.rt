@@ -1,4 +1,4 @@
-// The passes over the ordered pictures that fill one list, for crates `choosing` and `judging`; each picture's turn is `pass_step` of crate `passes`.
+// The passes over the ordered pictures that fill one list, for crates `choosing` and `reaching`; each picture's turn is `pass_step` of crate `passes`.
 use keys::PLACES;
 use keys::SLOTS;
 use passes::PassRule;

@@ -1,8 +1,8 @@
--- `judging::begun` meets its contract: upwards the list is that of the pass down. Assumes nothing.
+-- `reaching::begun` meets its contract: upwards the list is that of the pass down. Assumes nothing.
 use borrow.Author.Needs.{needs}
-use Rattle.judging.proofs.Asking.{begins-up}
-use Rattle.judging.proofs.begun.Statement.{statement}
-use Rattle.judging.proofs.begun.Tie as tie
+use Rattle.reaching.proofs.Beginning.{begins-up}
+use Rattle.reaching.proofs.begun.Statement.{statement}
+use Rattle.reaching.proofs.begun.Tie as tie
 
 passes-requires : tie.Need-passes-requires
 passes-requires c κs = search needs

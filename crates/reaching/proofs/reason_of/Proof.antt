@@ -1,12 +1,12 @@
--- `judging::reason_of` meets its contract: the row by what is asked, on the walk to the picture's turn. Assumes nothing.
+-- `reaching::reason_of` meets its contract: the row by what is asked, on the walk to the picture's turn. Assumes nothing.
 use mathlib.Core.Path.{refl, ap, _∙_}
 use mathlib.Core.Bool.{_&&_}
 use borrow.Author.Needs.{needs}
 use Rattle.keys.specs.Keys.{slotAt}
 use Rattle.ordering.specs.Order.{keyOf}
-use Rattle.judging.proofs.Judging.{on-call}
-use Rattle.judging.proofs.reason_of.Statement.{statement}
-use Rattle.judging.proofs.reason_of.Tie as tie
+use Rattle.reaching.proofs.Judging.{on-call}
+use Rattle.reaching.proofs.reason_of.Statement.{statement}
+use Rattle.reaching.proofs.reason_of.Tie as tie
 
 rule-of-requires : tie.Need-rule-of-requires
 rule-of-requires c κs = search needs

@@ -1,4 +1,4 @@
--- `judging::at_turn` meets its contract. The loop's invariant: from here the walk goes on as from its start, and no more was taken than keys
+-- `reaching::at_turn` meets its contract. The loop's invariant: from here the walk goes on as from its start, and no more was taken than keys
 -- were passed. The measure is how many keys are left. Assumes nothing.
 use Prim.Native.Nat.{ℕ, suc, _+_, _-_, _≤_, _<_}
 use mathlib.Core.Path.{_≡_, refl, sym, ap, _∙_}
@@ -16,9 +16,9 @@ use Rattle.passes.specs.InNumbers.{askIn}
 use Rattle.passes.proofs.Steps.{next-key}
 use Rattle.passes.proofs.Walked.{place-below, walked-length}
 use Rattle.reasons.specs.Reasons.{inFront}
-use Rattle.judging.proofs.Reaching.{reach, OnTheWay, reaches, way-end, way-turn, way-takes, way-leaves}
-use Rattle.judging.proofs.at_turn.Statement.{statement}
-use Rattle.judging.proofs.at_turn.Tie as tie
+use Rattle.reaching.proofs.Reaching.{reach, OnTheWay, reaches, way-end, way-turn, way-takes, way-leaves}
+use Rattle.reaching.proofs.at_turn.Statement.{statement}
+use Rattle.reaching.proofs.at_turn.Tie as tie
 
 abbrev way : List ℕ → ℕ → PassRule → Bool → ℕ → ℕ → ℕ → ℕ → ℕ → Type 0
 way pics num rule up cnt slot taken bound i =

@@ -1,4 +1,4 @@
--- `judging::judge` meets its contract: each return knows the tests in front of it. Assumes nothing.
+-- `weighing::judge` meets its contract: each return knows the tests in front of it. Assumes nothing.
 use mathlib.Core.Path.{_≡_, sym, ap, _∙_}
 use mathlib.Core.Bool.{Bool}
 use borrow.Author.Needs.{needs}
@@ -6,9 +6,9 @@ use Rattle.ordering.specs.InNumbers.{keyIn}
 use Rattle.passes.specs.declared.Turn.{Turn}
 use Rattle.passes.specs.Passes.{takesKey}
 use Rattle.passes.specs.InNumbers.{askIn}
-use Rattle.judging.proofs.Judging.{judged-taken, judged-full, judged-old, judged-same, judged-side, judged-layer}
-use Rattle.judging.proofs.judge.Statement.{statement}
-use Rattle.judging.proofs.judge.Tie as tie
+use Rattle.weighing.proofs.Judged.{judged-taken, judged-full, judged-old, judged-same, judged-side, judged-layer}
+use Rattle.weighing.proofs.judge.Statement.{statement}
+use Rattle.weighing.proofs.judge.Tie as tie
 
 -- whether the step takes it
 told : (c : tie.After-pass-step) {b : Bool} → c .pass-step .result .taken ≡ b

@@ -15,8 +15,8 @@ use Rattle.passes.specs.InNumbers.{askIn}
 use Rattle.passes.specs.Passes.{Ask, Progress, walked, takesKey, passStep, stepOn, passOn}
 use Rattle.passes.proofs.PassLaws.{step-takes, step-leaves}
 use Rattle.reasons.specs.Reasons.{inFront}
-use Rattle.judging.specs.declared.Reached.{Reached}
-use Rattle.judging.specs.Told.{Reaches}
+use Rattle.weighing.specs.declared.Reached.{Reached}
+use Rattle.reaching.specs.Told.{Reaches}
 
 abbrev pub reached : ℕ → ℕ → Reached
 reached cnt bound = record { cnt = cnt; bound = bound }

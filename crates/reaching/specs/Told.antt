@@ -12,7 +12,7 @@ use Rattle.passes.specs.declared.PassRule.{PassRule}
 use Rattle.passes.specs.Passes.{walked, passOn}
 use Rattle.passes.specs.InNumbers.{askIn}
 use Rattle.reasons.specs.Reasons.{inFront, passBegins}
-use Rattle.judging.specs.declared.Reached.{Reached}
+use Rattle.weighing.specs.declared.Reached.{Reached}
 
 -- The ordered keys, at most 21 of them, and a list that has at most as many entries.
 pub record WalkRoom (pics : List ℕ) (num cnt : ℕ) : Type 0 where

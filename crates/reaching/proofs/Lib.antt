@@ -1,0 +1,3 @@
+mod Reaching
+mod Judging
+mod Beginning
