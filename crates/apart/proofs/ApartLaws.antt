@@ -2,58 +2,26 @@
 -- them where no other slot holds its buffer.
 -- Assumes nothing.
 use mathlib.Core.Path.{_≡_, refl, sym, ap, ap₂, _∙_}
-use mathlib.Core.Bool.{Bool, true, false, cond, _&&_}
+use mathlib.Core.Bool.{Bool, true, false, cond}
 use mathlib.Core.Bool as Bool
 use mathlib.Core.List.{List, [], _∷_, map, List·Memᴰ, List·Memᴰ·head, List·Memᴰ·tail, List·Memᴰ·not-nil, List·Memᴰ·cases-cons, Memᴰ·cast, Memᴰ·map}
 use mathlib.Core.Logic.{_⊎_, inl, inr}
-use Prim.Native.Nat.{ℕ, _*_, _<_}
+use Prim.Native.Nat.{ℕ, _*_}
 use native.Mathlib.Omega.{arith}
 use lib.ListN.{length, replicate}
-use lib.Seq.{paste, length-paste}
-use borrow.Author.Tests.{ltb-true}
+use lib.Seq.{length-paste}
 use Rattle.seq.specs.Lists.{select, Distinct}
-use Rattle.seq.proofs.Tests.{and-left, and-right}
 use Rattle.seq.proofs.Members.{select-mem, holds-tail}
-use Rattle.def.specs.State.{slots, listPlaces, emptySlot, occupiedBy, isPresent, bufferOf}
+use Rattle.def.specs.State.{listPlaces, emptySlot, occupiedBy, isPresent, bufferOf}
 use Rattle.def.specs.declared.{Slot.Slot}
-use Rattle.keys.specs.Keys.{keyMade, rowLength, rowsLength, rowAt, slotAt, listsIn}
+use Rattle.keys.specs.Keys.{rowLength, rowsLength, rowAt, slotAt, listsIn}
 use Rattle.keys.proofs.RowLaws.{row-other, row-whole}
 use Rattle.keys.proofs.KeyLaws.{slot-made}
 use Rattle.keys.proofs.ListRows.{lists-stay}
-use Rattle.whole.specs.Whole.{zeroIfEmpty, pocFits, buffersOf}
-use Rattle.whole.specs.Rules.{Zero}
-use Rattle.whole.proofs.Laws.{zero-from}
-use Rattle.apart.specs.Apart.{slotFits, bufferFits, keyFor, rowsWith, rowsOf, Shaped}
-
--- ---- one slot
-
-abbrev keyOf : Slot → ℕ
-keyOf s = keyMade (s .pic .poc) (s .pic .«temporal_id») (s .buf) (s .pic .«need_for_out») (s .pic .«is_ref»)
-
-module _ (s : Slot) where
-  pub key-stray : slotFits s ≡ false → keyFor s ≡ 2
-  key-stray e = rw e refl
-
-  pub key-none : slotFits s ≡ true → s .present ≡ false → keyFor s ≡ 0
-  key-none e p = rw (e, p) refl
-
-  pub key-held : slotFits s ≡ true → s .present ≡ true → keyFor s ≡ keyOf s
-  key-held e p = rw (e, p) refl
-
-  pub rows-kept : slotFits s ≡ false → (rows : List ℕ) → rowsWith rows s ≡ rows
-  rows-kept e rows = rw e refl
-
-  pub rows-none : slotFits s ≡ true → s .present ≡ false → (rows : List ℕ) → rowsWith rows s ≡ rows
-  rows-none e p rows = rw (e, p) refl
-
-  pub rows-held : slotFits s ≡ true → s .present ≡ true → (rows : List ℕ) → rowsWith rows s ≡ paste rows (rowLength * s .buf) (s .pic .«list_poc») rowLength
-  rows-held e p rows = rw (e, p) refl
-
-  pub buffer-below : slotFits s ≡ true → s .present ≡ true → s .buf < slots
-  buffer-below e p = ltb-true (s .buf) slots (rw p at (and-right (pocFits s) (bufferFits s) (and-right (zeroIfEmpty s) (pocFits s && bufferFits s) e)))
-
-  zero : slotFits s ≡ true → s .present ≡ false → Zero s
-  zero e p = zero-from s (and-left (zeroIfEmpty s) (pocFits s && bufferFits s) e) p
+use Rattle.whole.specs.Whole.{buffersOf}
+use Rattle.apart.specs.Apart.{rowsOf}
+use Rattle.keying.specs.Keyed.{slotFits, keyFor, rowsWith, Shaped}
+use Rattle.keying.proofs.KeyedLaws.{key-none, key-held, rows-kept, rows-none, rows-held, buffer-below, zero}
 
 -- ---- the rows
 

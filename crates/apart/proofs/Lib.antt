@@ -1,3 +1,2 @@
 pub mod ApartLaws
 pub mod Taken
-pub mod Fitting

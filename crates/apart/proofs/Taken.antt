@@ -23,8 +23,10 @@ use Rattle.keys.specs.declared.{Rest.Rest}
 use Rattle.keys.specs.Keys.{rowsLength, slotAt, listsIn, stands, Sized}
 use Rattle.whole.specs.Whole.{whole, places, buffersOf, zeroIfEmpty, pocFits}
 use Rattle.whole.proofs.Laws.{rule, whole-rules}
-use Rattle.apart.specs.Apart.{slotFits, bufferFits, keyFor, rowsWith, rowsOf, Shaped, TakenSlot, TakenSlots, TakenApart}
-use Rattle.apart.proofs.ApartLaws.{bare, bare-read, key-stray, key-none, with-long, rows-long, rows-lists, slots-read}
+use Rattle.apart.specs.Apart.{rowsOf, TakenSlots, TakenApart}
+use Rattle.keying.specs.Keyed.{slotFits, bufferFits, keyFor, rowsWith, Shaped, TakenSlot}
+use Rattle.apart.proofs.ApartLaws.{bare, bare-read, with-long, rows-long, rows-lists, slots-read}
+use Rattle.keying.proofs.KeyedLaws.{key-stray, key-none}
 
 abbrev pub restWith : EvcPm → ℕ → Rest
 restWith pm k = record {

@@ -1,6 +1,5 @@
 // What the entry points by value share: a state that came is taken apart and tested, one that is not whole is handed back with its refusal, and
 // after a call the state is put together. Crates `entry`, `listing` and `explaining` call these.
-use apart::put_together;
 use apart::take_apart;
 use def::Answer;
 use def::EvcPm;
@@ -8,6 +7,7 @@ use def::PmResult;
 use def::Refusal;
 use keys::Called;
 use keys::Rest;
+use together::put_together;
 ghost use mathlib.Core.Path.{_≡_};
 ghost use mathlib.Core.Bool.{true};
 ghost use Rattle.def.specs.declared.Refusal.{Refusal};

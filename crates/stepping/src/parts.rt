@@ -1,10 +1,10 @@
 // A machine by value as keys, rows and scalars, and put together again. Any machine may be taken apart.
-use apart::put_together;
 use apart::take_apart;
 use entries::put_lists;
 use entries::take_lists;
 use machine::Machine;
 use machine::Scalars;
+use together::put_together;
 ghost use mathlib.Core.Path.{_≡_};
 ghost use Rattle.keys.specs.Keys.{Sized};
 ghost use Rattle.machine.specs.Running.{machineIn, Runs};

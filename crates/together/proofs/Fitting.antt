@@ -12,7 +12,7 @@ use Rattle.keys.specs.declared.{Rest.Rest}
 use Rattle.keys.specs.Keys.{keyPresent, keyNumber, slotAt, stands}
 use Rattle.whole.specs.Whole.{whole, places}
 use Rattle.whole.proofs.Laws.{whole-rules}
-use Rattle.apart.specs.Apart.{KeysFit}
+use Rattle.together.specs.Fitting.{KeysFit}
 
 module _ (keys rows : List ℕ) (rest : Rest) (w : whole (stands keys rows rest) ≡ true) where
   fits : (k : ℕ) → List·Memᴰ (slotAt rows k) (places (stands keys rows rest)) → keyNumber k ≤ highestPoc

@@ -1,8 +1,8 @@
--- `apart::put_together` meets its contract: by what its parts ensure. Assumes nothing.
+-- `together::put_together` meets its contract: by what its parts ensure. Assumes nothing.
 use mathlib.Core.Path.{refl}
-use Rattle.apart.proofs.Fitting.{keys-fit, lease-fits}
-use Rattle.apart.proofs.put_together.Statement.{statement}
-use Rattle.apart.proofs.put_together.Tie as tie
+use Rattle.together.proofs.Fitting.{keys-fit, lease-fits}
+use Rattle.together.proofs.put_together.Statement.{statement}
+use Rattle.together.proofs.put_together.Tie as tie
 
 put-slots-requires : tie.Need-put-slots-requires
 put-slots-requires c κs = let s = c .before .before in (s .pre .0, keys-fit (s .args .keys .now) (s .args .rows .now) (s .args .rest) (s .pre .1) (s .pre .0 .slots-long))

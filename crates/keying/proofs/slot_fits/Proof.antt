@@ -1,9 +1,9 @@
--- `apart::slot_fits` meets its contract: by whether a picture is there. Assumes nothing.
+-- `keying::slot_fits` meets its contract: by whether a picture is there. Assumes nothing.
 use mathlib.Core.Path.{sym}
 use mathlib.Core.Bool.{and-true}
 use borrow.Author.Needs.{needs}
-use Rattle.apart.proofs.slot_fits.Statement.{statement}
-use Rattle.apart.proofs.slot_fits.Tie as tie
+use Rattle.keying.proofs.slot_fits.Statement.{statement}
+use Rattle.keying.proofs.slot_fits.Tie as tie
 
 returns : tie.Need-returns
 returns c = rw (c .before .before .if1 .taken)

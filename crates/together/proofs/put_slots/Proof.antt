@@ -1,4 +1,4 @@
--- `apart::put_slots` meets its contract: the slots below place i are made. Assumes nothing.
+-- `together::put_slots` meets its contract: the slots below place i are made. Assumes nothing.
 use mathlib.Core.Path.{_≡_, refl, sym, ap, _∙_}
 use mathlib.Core.List.{map}
 use Prim.Native.Nat.{_≤_, _-_}
@@ -9,9 +9,9 @@ use lib.Seq.{take-all}
 use Rattle.seq.proofs.Maps.{fill-turn}
 use Rattle.def.specs.State.{slots}
 use Rattle.keys.specs.Keys.{slotAt, Sized}
-use Rattle.apart.specs.Apart.{KeysFit}
-use Rattle.apart.proofs.put_slots.Statement.{statement}
-use Rattle.apart.proofs.put_slots.Tie as tie
+use Rattle.together.specs.Fitting.{KeysFit}
+use Rattle.together.proofs.put_slots.Statement.{statement}
+use Rattle.together.proofs.put_slots.Tie as tie
 
 abbrev Inv-loop : tie.InvT-loop
 Inv-loop keys rows pic₀ i₀ pic i = (i ≤ slots) × Sized keys rows × KeysFit keys × (length pic ≡ slots) × (take i pic ≡ map (slotAt rows) (take i keys))

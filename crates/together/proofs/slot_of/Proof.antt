@@ -1,10 +1,10 @@
--- `apart::slot_of` meets its contract: an empty slot's numbers are zero, a picture's are its row. Assumes nothing.
+-- `together::slot_of` meets its contract: an empty slot's numbers are zero, a picture's are its row. Assumes nothing.
 use mathlib.Core.Path.{refl, sym, _∙_}
 use native.Mathlib.Omega.{arith}
 use borrow.Author.Needs.{needs}
 use borrow.Author.Tests.{not-true, not-false}
-use Rattle.apart.proofs.slot_of.Statement.{statement}
-use Rattle.apart.proofs.slot_of.Tie as tie
+use Rattle.together.proofs.slot_of.Statement.{statement}
+use Rattle.together.proofs.slot_of.Tie as tie
 
 is-present-requires : tie.Need-is-present-requires
 is-present-requires c κs = search needs

@@ -1,7 +1,7 @@
--- `apart::slot_with` meets its contract: by what its parts ensure. Assumes nothing.
+-- `together::slot_with` meets its contract: by what its parts ensure. Assumes nothing.
 use borrow.Author.Needs.{needs}
-use Rattle.apart.proofs.slot_with.Statement.{statement}
-use Rattle.apart.proofs.slot_with.Tie as tie
+use Rattle.together.proofs.slot_with.Statement.{statement}
+use Rattle.together.proofs.slot_with.Tie as tie
 
 number-of-requires : tie.Need-number-of-requires
 number-of-requires c κs = search needs

@@ -1,4 +1,4 @@
--- `apart::numbers_are_zero` meets its contract: so far, with what is left, the tests give what all of them give. Assumes nothing.
+-- `keying::numbers_are_zero` meets its contract: so far, with what is left, the tests give what all of them give. Assumes nothing.
 use mathlib.Core.Path.{_≡_, sym, _∙_}
 use mathlib.Core.Bool.{_&&_}
 use Prim.Native.Nat.{_≤_, _-_}
@@ -8,8 +8,8 @@ use lib.Dec.{eqb}
 use lib.ListN.{length, drop}
 use Rattle.seq.specs.Lists.{allOf}
 use Rattle.seq.proofs.Walks.{all-step, all-end}
-use Rattle.apart.proofs.numbers_are_zero.Statement.{statement}
-use Rattle.apart.proofs.numbers_are_zero.Tie as tie
+use Rattle.keying.proofs.numbers_are_zero.Statement.{statement}
+use Rattle.keying.proofs.numbers_are_zero.Tie as tie
 
 abbrev Inv-loop : tie.InvT-loop
 Inv-loop list-poc ok₀ i₀ ok i = (i ≤ 21) × (length list-poc ≡ 21) × ((ok && allOf (λ n. eqb n 0) (drop i list-poc)) ≡ allOf (λ n. eqb n 0) list-poc)

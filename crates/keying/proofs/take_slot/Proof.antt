@@ -1,15 +1,15 @@
--- `apart::take_slot` meets its contract: by whether the slot keeps its own rules, and whether a picture is there. Assumes nothing.
+-- `keying::take_slot` meets its contract: by whether the slot keeps its own rules, and whether a picture is there. Assumes nothing.
 use mathlib.Core.Path.{_≡_, sym, _∙_}
 use mathlib.Core.Bool.{true}
 use Prim.Native.Nat.{_<_}
 use native.Mathlib.Omega.{arith}
 use borrow.Author.Tests.{not-true, not-false}
 use Rattle.def.specs.State.{slots}
-use Rattle.apart.specs.Apart.{slotFits, Shaped}
-use Rattle.apart.proofs.ApartLaws.{key-stray, key-none, key-held, rows-kept, rows-none, rows-held, buffer-below}
+use Rattle.keying.specs.Keyed.{slotFits, Shaped}
+use Rattle.keying.proofs.KeyedLaws.{key-stray, key-none, key-held, rows-kept, rows-none, rows-held, buffer-below}
 use borrow.Author.Needs.{needs}
-use Rattle.apart.proofs.take_slot.Statement.{statement}
-use Rattle.apart.proofs.take_slot.Tie as tie
+use Rattle.keying.proofs.take_slot.Statement.{statement}
+use Rattle.keying.proofs.take_slot.Tie as tie
 
 slot-fits-requires : tie.Need-slot-fits-requires
 slot-fits-requires c κs = search needs
