@@ -7,12 +7,13 @@ ghost use lib.Seq.{paste};
 ghost use Rattle.seq.specs.Lists.{removeAt};
 ghost use Rattle.def.specs.State.{slots, highestPoc};
 ghost use Rattle.keys.specs.Keys.{keyNumber, rowLength, stands, Sized};
-ghost use Rattle.store.specs.Search.{keyFree};
+ghost use Rattle.free_buffers.specs.FreeBuffer.{keyFree};
 ghost use Rattle.whole.specs.Whole.{whole};
 ghost use Rattle.picman.specs.Get.{getWhole};
 ghost use Rattle.picman.specs.OnKeys.{keyReused, keyLeased, Calls};
 use def::Answer;
 use def::Refusal;
+use free_buffers::free_buffer;
 use keys::Called;
 use keys::Rest;
 use keys::SLOTS;
@@ -21,9 +22,8 @@ use keys::key::is_present;
 use keys::key::number_of;
 use keys::row::clear_row;
 use picman::refuse;
-use store::moves::remove_key;
-use store::search::free_buffer;
-use store::search::lowest_idle;
+use sliding::remove_key;
+use store::lowest_idle;
 
 // The picture at `pos` is taken out of the store and leased, as it is.
 fn reuse_pic(keys: &mut [u64], rest: Rest, pos: usize) -> Called

@@ -7,8 +7,8 @@ use def::MAX_NUM_ACTIVE_REF_FRAME;
 use keys::SLOTS;
 use keys::key::is_marked;
 use keys::key::unmarked;
-use store::moves::move_last;
-use store::search::count_marked;
+use sliding::move_last;
+use store::count_marked;
 use sweeping::pick_outdated;
 use sweeping::sweep;
 

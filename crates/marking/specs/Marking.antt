@@ -8,7 +8,7 @@ use Rattle.seq.specs.Lists.{countIf, selectAt, moveTo}
 use Rattle.def.specs.declared.Slot.{Slot}
 use Rattle.def.specs.declared.EvcPm.{EvcPm}
 use Rattle.def.specs.State.{noSlot, isMarked, unmarked, withStore}
-pub use Rattle.store.specs.Search.{lastSlot}
+pub use Rattle.sliding.specs.Sliding.{lastSlot}
 
 -- Marking leaves at most 4 marked: the sliding limit is 5.
 abbrev pub mostMarked : ℕ

@@ -21,7 +21,7 @@ use Rattle.keys.specs.Keys.{keyPresent, keyIdle, keyBuffers, keyNumber, rowLeng
 use Rattle.keys.proofs.RowLaws.{row-whole, row-other}
 use Rattle.keys.proofs.KeyLaws.{slot-new, slots-unseen, buffers-same}
 use Rattle.keys.proofs.ListRows.{lists-stay}
-use Rattle.store.specs.Search.{keyFree}
+use Rattle.free_buffers.specs.FreeBuffer.{keyFree}
 use Rattle.whole.specs.Whole.{whole}
 use Rattle.whole.proofs.Laws.{whole-rules, free-buffer-below}
 use Rattle.picman.specs.Get.{reuse, freeBuffer, shown, getNew, getWhole}

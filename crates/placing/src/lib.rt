@@ -21,8 +21,8 @@ use keys::key::is_present;
 use keys::key::key_of;
 use keys::row::copy_row;
 use picman::refuse;
-use store::moves::copy_keys;
-use store::search::highest_empty;
+use sliding::copy_keys;
+use store::highest_empty;
 
 // Where the picture goes: a reference to the slot of the reference count, any other to the highest empty slot. 27 where that slot is taken.
 fn place_for(keys: &[u64], count: u8, ref_pic: bool) -> usize

@@ -22,7 +22,7 @@ use marking::picman_flush_pb;
 use picman::refuse;
 use placing::place_marked;
 use placing::place_unmarked;
-use store::moves::copy_keys;
+use sliding::copy_keys;
 
 // Whether the put marks: it flushes, or its picture is of layer 0.
 fn marks_anew(call: PutCall) -> bool
