@@ -1,1 +1,1 @@
-mod Calling
+mod Defining

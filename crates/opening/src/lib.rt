@@ -1,5 +1,5 @@
 // What the entry points by value share: a state that came is taken apart and tested, one that is not whole is handed back with its refusal, and
-// after a call the state is put together. Crates `entry`, `listing` and `explaining` call these.
+// after a call the state is put together. Crates `starting`, `entry`, `listing` and `explaining` call these.
 use apart::take_apart;
 use def::Answer;
 use def::EvcPm;

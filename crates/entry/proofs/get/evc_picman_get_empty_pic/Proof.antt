@@ -3,7 +3,8 @@ use mathlib.Core.Path.{_≡_, _∙_}
 use mathlib.Core.Bool.{true}
 use borrow.Author.Tests.{not-true, not-false}
 use Rattle.opening.proofs.Opening.{opened-whole}
-use Rattle.entry.proofs.Calling.{turned-away, still-whole, comes-to, get-defined}
+use Rattle.opening.proofs.Calling.{turned-away, still-whole, comes-to}
+use Rattle.entry.proofs.Defining.{get-defined}
 use borrow.Author.Needs.{needs}
 use Rattle.entry.proofs.get.evc_picman_get_empty_pic.Statement.{statement}
 use Rattle.entry.proofs.get.evc_picman_get_empty_pic.Tie as tie

@@ -3,7 +3,8 @@ use mathlib.Core.Path.{_≡_, _∙_}
 use mathlib.Core.Bool.{true}
 use borrow.Author.Tests.{not-true, not-false}
 use Rattle.opening.proofs.Opening.{opened-whole}
-use Rattle.entry.proofs.Calling.{turned-away, still-whole, comes-to, out-defined}
+use Rattle.opening.proofs.Calling.{turned-away, still-whole, comes-to}
+use Rattle.entry.proofs.Defining.{out-defined}
 use borrow.Author.Needs.{needs}
 use Rattle.picman.proofs.OutOnKeys.{numbers-fit}
 use Rattle.entry.proofs.out.evc_picman_out_pic.Statement.{statement}

@@ -5,7 +5,8 @@ use borrow.Author.Tests.{not-true, not-false}
 use Rattle.opening.specs.Opening.{Opens}
 use Rattle.opening.proofs.Opening.{opened-whole}
 use Rattle.picman.specs.Put.{put, putWhole}
-use Rattle.entry.proofs.Calling.{Defined, turned-away, still-whole, comes-to, put-defined, put-on-lists}
+use Rattle.opening.proofs.Calling.{Defined, turned-away, still-whole, comes-to}
+use Rattle.entry.proofs.Defining.{put-defined, put-on-lists}
 use borrow.Author.Needs.{needs}
 use Rattle.entry.proofs.put.evc_picman_put_pic.Statement.{statement}
 use Rattle.entry.proofs.put.evc_picman_put_pic.Tie as tie

@@ -1,4 +1,5 @@
-// Init by value: the two limits, step 1 and no lease.
+// Init by value, with the name and the shape of the original: the two limits, step 1 and no lease. Any state may come: one that is not whole is
+// handed back with its refusal.
 use def::EvcPm;
 use def::PmResult;
 use keys::ROWS;

@@ -1,12 +1,13 @@
--- `entry::init::evc_picman_init` meets its contract: a state that is not whole is handed back, and else the core's call is the definition's. Assumes nothing.
+-- `starting::evc_picman_init` meets its contract: a state that is not whole is handed back, and else the core's call is the definition's. Assumes nothing.
 use mathlib.Core.Path.{_≡_, _∙_}
 use mathlib.Core.Bool.{true}
 use borrow.Author.Tests.{not-true, not-false}
 use Rattle.picman.specs.Init.{init, initWhole}
-use Rattle.entry.proofs.Calling.{Defined, turned-away, still-whole, comes-to, init-defined}
+use Rattle.opening.proofs.Calling.{Defined, turned-away, still-whole, comes-to}
+use Rattle.starting.proofs.Defining.{init-defined}
 use borrow.Author.Needs.{needs}
-use Rattle.entry.proofs.init.evc_picman_init.Statement.{statement}
-use Rattle.entry.proofs.init.evc_picman_init.Tie as tie
+use Rattle.starting.proofs.evc_picman_init.Statement.{statement}
+use Rattle.starting.proofs.evc_picman_init.Tie as tie
 
 slice-aggregate-open-state : tie.Need-slice-aggregate-open-state
 slice-aggregate-open-state c = search needs
