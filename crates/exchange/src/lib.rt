@@ -1,35 +1,14 @@
-// The running machine and the image, its form for exchange: an image is read and written by value, loaded into lent arrays and saved from
-// them. Any bits may stand in the arrays and in the image. A state that is not whole is turned down both ways: keys cannot say every such state.
-use image::is_image;
-use image::places::IMAGE_LENGTH;
+// A machine by value and the image, its form for exchange: read from the bytes of an image and written as them. Whoever calls has tested the
+// length.
 use image_reading::read_pm;
 use image_reading::read_poc;
 use image_reading::read_refps;
 use image_writing::write_image;
-use keys::ROWS;
-use keys::SLOTS;
-use line::BAD_LINE;
 use machine::Machine;
-use machine::Scalars;
-use registers::poc_of;
-use registers::rest_of;
-use registers::store;
-use sizing::is_sized;
-use stepping::parts::put_machine;
-use stepping::parts::take_machine;
-use whole::is_whole;
 ghost use mathlib.Core.Path.{_≡_};
-ghost use mathlib.Core.Bool.{true};
 ghost use lib.ListN.{length};
-ghost use Rattle.whole.specs.Whole.{whole};
-ghost use Rattle.image.specs.Image.{imageLength, isImage};
-ghost use Rattle.machine.specs.Lent.{slices, sized};
+ghost use Rattle.image.specs.Image.{imageLength};
 ghost use Rattle.exchange.specs.Lent.{machineOf, machineBytes, ImageHolds};
-ghost use Rattle.exchange.specs.Exchanged.{Loads, Saves};
-
-const NOT_WHOLE: u8 = 7;
-
-const DONE: u8 = 0;
 
 pub fn read_machine(image: &[u8]) -> Machine
     requires { ⌜ length (now image) ≡ imageLength ⌝ }
@@ -50,73 +29,4 @@ pub fn write_machine(image: &mut [u8], machine: Machine)
     let refp = machine.refp;
     let poc = machine.poc;
     write_image(image, pm, refp, poc);
-}
-
-// Whether a machine's state is whole, told from its keys.
-fn state_is_whole(m: Machine) -> bool
-    ensures { λ r. ⌜ r ≡ whole (m .pm) ⌝ }
-{
-    let mut keys = [0u64; SLOTS];
-    let mut rows = [0u32; ROWS];
-    let s = take_machine(m, &mut keys, &mut rows);
-    let rest = s.rest;
-    is_whole(&keys, rest)
-}
-
-// Arrays of the right sizes get the machine of an image that was found to be one.
-fn load_image(keys: &mut [u64], rows: &mut [u32], registers: &mut [u32], image: &[u8]) -> u8
-    requires { ⌜ (sized (slices (now keys) (now rows) (now registers)) ≡ true) × (isImage (now image) ≡ true) ⌝ }
-    ensures { λ r. ⌜ Loads r (now (keys .entry)) (now (rows .entry)) (now (registers .entry)) (now (image .entry)) (now (keys .exit)) (now (rows .exit)) (now (registers .exit)) ⌝ }
-{
-    let m = read_machine(image);
-    if !state_is_whole(m) {
-        return NOT_WHOLE;
-    }
-    let s = take_machine(m, keys, rows);
-    let rest = s.rest;
-    let poc = s.poc;
-    store(registers, rest, poc);
-    DONE
-}
-
-// The arrays get the machine of an image: 0. Nothing is written under 18 and 7.
-pub fn load(keys: &mut [u64], rows: &mut [u32], registers: &mut [u32], image: &[u8]) -> u8
-    ensures { λ r. ⌜ Loads r (now (keys .entry)) (now (rows .entry)) (now (registers .entry)) (now (image .entry)) (now (keys .exit)) (now (rows .exit)) (now (registers .exit)) ⌝ }
-{
-    if !is_sized(keys, rows, registers) {
-        return BAD_LINE;
-    }
-    if !is_image(image) {
-        return BAD_LINE;
-    }
-    load_image(keys, rows, registers, image)
-}
-
-// An image of the right size gets the machine of arrays of the right sizes.
-fn save_machine(keys: &[u64], rows: &[u32], registers: &[u32], image: &mut [u8]) -> u8
-    requires { ⌜ (sized (slices (now keys) (now rows) (now registers)) ≡ true) × (length (now image) ≡ imageLength) ⌝ }
-    ensures { λ r. ⌜ Saves r (now (keys .entry)) (now (rows .entry)) (now (registers .entry)) (now (image .entry)) (now (image .exit)) ⌝ }
-{
-    let rest = rest_of(registers);
-    if !is_whole(keys, rest) {
-        return NOT_WHOLE;
-    }
-    let poc = poc_of(registers);
-    let s = Scalars { rest, poc };
-    let m = put_machine(keys, rows, s);
-    write_machine(image, m);
-    DONE
-}
-
-// The image gets the machine of the arrays: 0. Nothing is written under 18 and 7.
-pub fn save(keys: &[u64], rows: &[u32], registers: &[u32], image: &mut [u8]) -> u8
-    ensures { λ r. ⌜ Saves r (now (keys .entry)) (now (rows .entry)) (now (registers .entry)) (now (image .entry)) (now (image .exit)) ⌝ }
-{
-    if !is_sized(keys, rows, registers) {
-        return BAD_LINE;
-    }
-    if image.len() != IMAGE_LENGTH {
-        return BAD_LINE;
-    }
-    save_machine(keys, rows, registers, image)
 }

@@ -2,19 +2,14 @@
 // a flag byte that does not fit gives 18, and nothing is written. In the contracts `given` says, byte for byte, what is given and what the lent
 // buffers hold then; `holds` says that the bytes are an image again, from which the next call reads the machine that this one left; `kept` says
 // that a call that is turned down, with a refusal's number, leaves the image as it was.
-use copying::check_copy_refp;
 use exchange::read_machine;
 use exchange::write_machine;
-use image::is_flag;
 use image::is_image;
 use image::places::IMAGE_LENGTH;
-use image::places::REFP_WIDTH;
-use image_reading::read_refp;
 use line::BAD_LINE;
 use line::Call;
 use line::Line;
 use line::bad_line_reply;
-use line::reply_of;
 use machine::fresh::new_machine;
 use parsing::read_call;
 use stepping::step;
@@ -23,12 +18,11 @@ use wire::write_answer;
 ghost use mathlib.Core.Path.{_≡_};
 ghost use lib.ListN.{length};
 ghost use Rattle.line.specs.Answers.{badLineReply};
-ghost use Rattle.image.specs.Image.{refpWidth, imageLength};
+ghost use Rattle.image.specs.Image.{imageLength};
 ghost use Rattle.machine.specs.Step.{step};
-ghost use Rattle.exchange.specs.Lent.{badLine, left, machineOf, ImageHolds};
+ghost use Rattle.exchange.specs.Lent.{badLine, machineOf, ImageHolds};
 ghost use Rattle.wire.specs.Wire.{answerLength, answerBytes};
 ghost use Rattle.images.specs.Called.{answered, replied, Renews, Answers};
-ghost use Rattle.images.specs.Copied.{isEntry, copyInto, withLists, relisted, Copies};
 
 const DONE: u8 = 0;
 
@@ -82,44 +76,4 @@ pub fn call_image(image: &mut [u8], call: &[u8], answer: &mut [u8]) -> u8
         Line::Good(good) => answer_good(image, good, answer),
         Line::Bad => answer_bad(answer),
     }
-}
-
-fn is_entry(entry: &[u8]) -> bool
-    ensures { λ r. ⌜ r ≡ isEntry (now (entry .entry)) ⌝ }
-{
-    if entry.len() != REFP_WIDTH {
-        return false;
-    }
-    is_flag(entry, 0)
-}
-
-// Copy on an image and an entry that are what they must be.
-fn copy_entry(image: &mut [u8], cnt: u64, lidx: u64, entry: &[u8]) -> u8
-    requires { ⌜ (length (now image) ≡ imageLength) × (length (now entry) ≡ refpWidth) ⌝ }
-    ensures given { λ r. ⌜ left r (now (image .exit)) ≡ relisted (now (image .entry)) (copyInto (now (image .entry)) cnt lidx (now (entry .entry))) ⌝ }
-    ensures holds { λ _. ⌜ ImageHolds (now (image .exit)) (withLists (machineOf (now (image .entry))) (copyInto (now (image .entry)) cnt lidx (now (entry .entry)) .refp)) ⌝ }
-{
-    let machine = read_machine(image);
-    let refp = machine.refp;
-    let src = read_refp(entry, 0);
-    let copied = check_copy_refp(refp, cnt, lidx, src);
-    let lists = copied.refp;
-    let mut after = machine;
-    after.refp = lists;
-    write_machine(image, after);
-    let answer = copied.answer;
-    reply_of(0, answer).status
-}
-
-// Writes an entry at place `cnt` of one list: 0, or 13 or 14.
-pub fn copy_image(image: &mut [u8], cnt: u64, lidx: u64, entry: &[u8]) -> u8
-    ensures { λ r. ⌜ Copies r (now (image .entry)) cnt lidx (now (entry .entry)) (now (image .exit)) ⌝ }
-{
-    if !is_image(image) {
-        return BAD_LINE;
-    }
-    if !is_entry(entry) {
-        return BAD_LINE;
-    }
-    copy_entry(image, cnt, lidx, entry)
 }

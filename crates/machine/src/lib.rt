@@ -7,7 +7,6 @@ use def::REFP_PLACES;
 use keys::Rest;
 use line::Reply;
 
-pub mod calls;
 pub mod fields;
 pub mod fresh;
 

@@ -1,5 +1,5 @@
 // The running machine from an image and to it.
-ghost use Rattle.exchange.specs.Exchanged.{Loads, Saves};
+ghost use Rattle.transfer.specs.Exchanged.{Loads, Saves};
 
 // The arrays get the machine of an image: 0. A size that does not fit and bytes that are no image give 18, a state that is not whole 7.
 #[no_mangle]
@@ -11,7 +11,7 @@ pub extern "C" fn picman_machine_load(
 ) -> u8
     ensures { λ r. ⌜ Loads r (now (keys .entry)) (now (rows .entry)) (now (registers .entry)) (now (image .entry)) (now (keys .exit)) (now (rows .exit)) (now (registers .exit)) ⌝ }
 {
-    exchange::load(keys, rows, registers, image)
+    transfer::load(keys, rows, registers, image)
 }
 
 // The image gets the machine of the arrays: 0. A size that does not fit gives 18, a state that is not whole 7.
@@ -24,5 +24,5 @@ pub extern "C" fn picman_machine_save(
 ) -> u8
     ensures { λ r. ⌜ Saves r (now (keys .entry)) (now (rows .entry)) (now (registers .entry)) (now (image .entry)) (now (image .exit)) ⌝ }
 {
-    exchange::save(keys, rows, registers, image)
+    transfer::save(keys, rows, registers, image)
 }

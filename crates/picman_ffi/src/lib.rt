@@ -10,7 +10,7 @@ pub mod why;
 ghost use mathlib.Core.Path.{_≡_};
 ghost use Rattle.tbl.specs.DepthRows.{sliceDepth, sliceDepthP};
 ghost use Rattle.images.specs.Called.{Renews, Answers};
-ghost use Rattle.images.specs.Copied.{Copies};
+ghost use Rattle.image_copy.specs.Copied.{Copies};
 ghost use Rattle.depths.specs.Depths.{depthOrZero};
 
 // Writes the new machine, whatever the image held: 0.
@@ -34,7 +34,7 @@ pub extern "C" fn picman_call(image: &mut [u8], call: &[u8], answer: &mut [u8]) 
 pub extern "C" fn picman_copy_refp(image: &mut [u8], cnt: u64, lidx: u64, entry: &[u8]) -> u8
     ensures { λ r. ⌜ Copies r (now (image .entry)) cnt lidx (now (entry .entry)) (now (image .exit)) ⌝ }
 {
-    images::copy_image(image, cnt, lidx, entry)
+    image_copy::copy_image(image, cnt, lidx, entry)
 }
 
 // The depth at a position of a group with a hierarchy of B slices.

@@ -1,6 +1,6 @@
 // Why a picture is or is not in the forward list of a slice, for C and Rust: crate `questions` under the library's names.
-use questions::why_of_image;
-use questions::why_of_slices;
+use image_why::why_of_image;
+use machine_why::why_of_slices;
 ghost use mathlib.Core.Path.{_≡_};
 ghost use Rattle.machine.specs.Lent.{slices};
 ghost use Rattle.questions.specs.Asked.{whyLeft, whyOfImage, whyOfSlices};

@@ -1,13 +1,13 @@
 // The running machine on three slices that a caller owns, keys, rows and registers, for callers that cannot promise anything: any bits may
 // stand in them and every call ends. A wrong size is answered as a bad line is, with 18, a state that is not whole with 7, and a line that is
 // turned down leaves every number as it was. The static library's functions are thin over these; all take the one road of `reply_on`.
+use checking::checked_call;
 use def::is_refusal_number;
 use line::Call;
 use line::Line;
 use line::Reply;
 use line::bad_line_reply;
 use machine::Scalars;
-use machine::calls::checked_call;
 use sizing::is_sized;
 ghost use mathlib.Core.Path.{_≡_};
 ghost use lib.ListN.{length};

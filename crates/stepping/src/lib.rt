@@ -7,7 +7,7 @@ use line::Call;
 use line::Line;
 use machine::Machine;
 use machine::Stepped;
-use machine::calls::reads_state;
+use making::reads_state;
 use parts::put_machine;
 use parts::take_machine;
 use registers::REGISTERS;

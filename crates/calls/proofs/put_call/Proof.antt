@@ -1,0 +1,32 @@
+-- `calls::put_call` meets its contract. Assumes nothing.
+use Rattle.machine.proofs.Running.{state-makes, put-on-whole}
+use borrow.Author.Needs.{needs}
+use Rattle.calls.proofs.put_call.Statement.{statement}
+use Rattle.calls.proofs.put_call.Tie as tie
+
+slice-aggregate-put : tie.Need-slice-aggregate-put
+slice-aggregate-put c = search needs
+
+put-requires : tie.Need-put-requires
+put-requires c κs = search needs
+
+made-requires : tie.Need-made-requires
+made-requires c κs = search needs
+
+same-length : tie.Need-same-length
+same-length c = search needs
+
+same-length-2 : tie.Need-same-length-2
+same-length-2 c = search needs
+
+returns : tie.Need-returns
+returns c =
+    let called = c .before .before .before .before .before .before in
+    let s = called .before .before .before .before .before .before .before .before in
+    let a = s .args in
+    state-makes (a .keys .now) (a .rows .now) (a .s) 3 (c .made .ensures) (put-on-whole _ _ (a .call) (s .pre .whole-state)) (called .put .ensures)
+
+pub put-call-spec : {M : Type 1} → statement M
+put-call-spec =
+    tie.close
+    (tie.spec slice-aggregate-put put-requires made-requires same-length same-length-2 returns)
