@@ -1,2 +1,1 @@
 pub mod LineWritten
-pub mod ExpectedTable

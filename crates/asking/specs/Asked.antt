@@ -2,44 +2,16 @@
 -- Assumes nothing.
 use Prim.Native.Nat.{ℕ, _≤_}
 use mathlib.Core.Bool.{cond}
-use mathlib.Core.List.{List, [], _∷_, _++_}
-use lib.Dec.{leb, ltb}
-use lib.ListN.{length, getD}
+use mathlib.Core.List.{List, []}
+use lib.Dec.{ltb}
+use lib.ListN.{length}
 use Rattle.hex.specs.Hex.{digitsOf, sum8}
 use Rattle.framing.specs.Framing.{wholeOf}
 use Rattle.line.specs.Calls.{callBytes}
-use Rattle.phrases.specs.Phrases.{chars, decimalFrom, decimal, Added}
+use Rattle.phrases.specs.Phrases.{Added}
 use Rattle.commands.specs.declared.Command.{Command}
 use Rattle.commands.specs.Commands.{readCommand}
-
--- What is expected, by the number of the word that is wanted.
-abbrev pub expectedTexts : List (List ℕ)
-expectedTexts =
-    chars "init, get, put, out, lists or derive"
-    ∷ chars "a number from 0 to 255"
-    ∷ chars "a number from 0 to 255"
-    ∷ chars "I, P, B or a number from 0 to 255"
-    ∷ chars "a number from 0 to 4294967295"
-    ∷ chars "none or a number from 0 to 4294967295"
-    ∷ chars "layer, gap, idr, out, ref or none, each once"
-    ∷ chars "layer, intra or limit, each once"
-    ∷ chars "a number from 0 to 255"
-    ∷ chars "a number from 0 to 4294967295"
-    ∷ chars "a number from -2147483648 to 2147483647"
-    ∷ chars "a number from 0 to 255"
-    ∷ chars "the end of the line"
-    ∷ chars "at most 1023 characters"
-    ∷ []
-
-abbrev pub expectedPlace : ℕ → ℕ
-expectedPlace want = cond (leb want 13) want 12
-
-unfoldable pub expectedText : ℕ → List ℕ
-expectedText want = getD expectedTexts (expectedPlace want) []
-
-unfoldable pub expectedWords : ℕ → ℕ → List ℕ
-unfolding decimalFrom expectedText
-expectedWords number want = chars "line " ++ (decimal number ++ (chars ": expected " ++ (expectedText want ++ chars "\n")))
+use Rattle.expecting.specs.Expected.{expectedWords}
 
 -- What goes to the output, and what to the messages.
 pub record Texts : Type 0 where

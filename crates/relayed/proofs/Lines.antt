@@ -12,7 +12,8 @@ use borrow.Author.Tests.{lt-ltb}
 use Rattle.seq.proofs.Tests.{lt-or-ge}
 use Rattle.buffer.specs.Buffer.{isNewline, lastLine, linesFrom}
 use Rattle.answers.proofs.AnswersRead.{other-length}
-use Rattle.asking.specs.Asked.{Texts, texts, expectedWords, asked}
+use Rattle.expecting.specs.Expected.{expectedWords}
+use Rattle.asking.specs.Asked.{Texts, texts, asked}
 use Rattle.saying.specs.Words.{badLineWords, saidLine}
 use Rattle.telling.specs.declared.Kind.{Kind}
 use Rattle.telling.specs.Told.{told, joined, nextNumber, toldLines}

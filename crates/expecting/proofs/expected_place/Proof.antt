@@ -1,9 +1,9 @@
--- `asking::expected_place` meets its contract.
+-- `expecting::expected_place` meets its contract.
 -- Assumes nothing.
 use borrow.Author.Tests.{le-leb, lt-leb}
 use borrow.Author.Needs.{needs}
-use Rattle.asking.proofs.expected_place.Statement.{statement}
-use Rattle.asking.proofs.expected_place.Tie as tie
+use Rattle.expecting.proofs.expected_place.Statement.{statement}
+use Rattle.expecting.proofs.expected_place.Tie as tie
 
 returns : tie.Need-returns
 returns c = (rw (le-leb (c .before .args .want) 13 (c .if1 .taken)), search needs)

@@ -1,15 +1,15 @@
--- `asking::add_expected` meets its contract: the entry of a wanted word is its text.
+-- `expecting::add_expected` meets its contract: the entry of a wanted word is its text.
 -- Assumes nothing.
 use Prim.Native.Nat.{ℕ}
 use mathlib.Core.List.{[]}
 use lib.ListN.{getD}
-use Rattle.asking.specs.Asked.{expectedTexts, expectedText}
+use Rattle.expecting.specs.Expected.{expectedTexts, expectedText}
 use mathlib.Core.Path.{ap, _∙_}
 use native.Mathlib.Omega.{arith}
-use Rattle.asking.proofs.ExpectedTable.{expected-at, expected-short}
+use Rattle.expecting.proofs.ExpectedTable.{expected-at, expected-short}
 use borrow.Author.Needs.{needs}
-use Rattle.asking.proofs.add_expected.Statement.{statement}
-use Rattle.asking.proofs.add_expected.Tie as tie
+use Rattle.expecting.proofs.add_expected.Statement.{statement}
+use Rattle.expecting.proofs.add_expected.Tie as tie
 
 expected-place-requires : tie.Need-expected-place-requires
 expected-place-requires c κs = search needs

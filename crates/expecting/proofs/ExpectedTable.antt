@@ -7,7 +7,7 @@ use lib.ListN.{getD}
 use Rattle.seq.specs.Lists.{entries, entriesFrom}
 use Rattle.phrases.specs.Phrases.{chars, entryOf}
 use Rattle.phrases.proofs.Tables.{text-at, short-at}
-use Rattle.asking.specs.Asked.{expectedTexts}
+use Rattle.expecting.specs.Expected.{expectedTexts}
 
 abbrev pub table : List ℕ
 table =

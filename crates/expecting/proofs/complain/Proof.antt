@@ -1,11 +1,11 @@
--- `asking::complain` meets its contract: its parts stand one behind the other.
+-- `expecting::complain` meets its contract: its parts stand one behind the other.
 -- Assumes nothing.
-use Rattle.asking.specs.Asked.{expectedWords}
+use Rattle.expecting.specs.Expected.{expectedWords}
 use Rattle.phrases.proofs.Adding.{added-then}
 use native.Mathlib.Omega.{arith}
 use borrow.Author.Needs.{needs}
-use Rattle.asking.proofs.complain.Statement.{statement}
-use Rattle.asking.proofs.complain.Tie as tie
+use Rattle.expecting.proofs.complain.Statement.{statement}
+use Rattle.expecting.proofs.complain.Tie as tie
 
 slice-aggregate-add : tie.Need-slice-aggregate-add
 slice-aggregate-add c = search needs
