@@ -13,7 +13,8 @@ use Rattle.io.specs.Counts.{clamped}
 use Rattle.reading.specs.declared.Heard.{Heard}
 use Rattle.reading.specs.Reading.{Patient}
 use Rattle.asking.specs.Asked.{Texts}
-use Rattle.telling.specs.declared.{Kind.Kind, Spot.Spot, Spoken.Spoken}
+use Rattle.spots.specs.declared.Spot.{Spot}
+use Rattle.telling.specs.declared.{Kind.Kind, Spoken.Spoken}
 use Rattle.telling.specs.Telling.{Keeps, ToldPiece}
 use Rattle.delivering.specs.declared.{Went.Went, Handed.Handed}
 use Rattle.delivering.specs.declared.Went.the-variants.{On, InputEnded, ReadFailed, WriteFailed}

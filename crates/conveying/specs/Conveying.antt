@@ -11,7 +11,8 @@ use lib.ListN.{length, take}
 use Rattle.io.specs.Counts.{clamped}
 use Rattle.reading.specs.Reading.{Patient}
 use Rattle.asking.specs.Asked.{Texts, texts}
-use Rattle.telling.specs.declared.{Kind.Kind, Spot.Spot}
+use Rattle.spots.specs.declared.Spot.{Spot}
+use Rattle.telling.specs.declared.Kind.{Kind}
 use Rattle.telling.specs.Told.{joined}
 use Rattle.telling.specs.Telling.{most, Keeps, ToldPiece}
 use Rattle.delivering.specs.declared.{Went.Went, Handed.Handed}

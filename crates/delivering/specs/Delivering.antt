@@ -5,7 +5,8 @@ use mathlib.Core.Bool.{Bool, true, false, cond}
 use lib.Dec.{eqb}
 use mathlib.Core.List.{List, [], _∷_}
 use Rattle.reading.specs.declared.Heard.{Heard}
-use Rattle.telling.specs.declared.{Kind.Kind, Spot.Spot}
+use Rattle.spots.specs.declared.Spot.{Spot}
+use Rattle.telling.specs.declared.Kind.{Kind}
 use Rattle.telling.specs.Telling.{ToldPiece}
 use Rattle.delivering.specs.declared.{Went.Went, Handed.Handed}
 use Rattle.delivering.specs.declared.Went.the-variants.{On, InputEnded, ReadFailed, WriteFailed}

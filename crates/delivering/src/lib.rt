@@ -1,9 +1,9 @@
 // What a turn of the loop of `picman_ask` and `picman_say` hands on: texts given to be written, and at the end of the input its last line.
 // A write that fails is said on standard error, with the system's words. Crate `conveying` calls these.
 use reading::Heard;
+use spots::Spot;
 use telling::Kind;
 use telling::Spoken;
-use telling::Spot;
 use telling::tell_piece;
 ghost use mathlib.Core.Path.{_≡_};
 ghost use Prim.Native.Nat.{_≤_};

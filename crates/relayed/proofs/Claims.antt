@@ -12,7 +12,8 @@ use Rattle.reading.proofs.Signs.{nothing-brought, nothing-failed}
 use Rattle.phrases.specs.Phrases.{Added}
 use Rattle.phrases.proofs.Adding.{added-length, added-front}
 use Rattle.asking.specs.Asked.{Texts, texts}
-use Rattle.telling.specs.declared.{Kind.Kind, Spot.Spot, Spoken.Spoken}
+use Rattle.spots.specs.declared.Spot.{Spot}
+use Rattle.telling.specs.declared.{Kind.Kind, Spoken.Spoken}
 use Rattle.telling.specs.Told.{joined, toldLines, toldInput}
 use Rattle.delivering.specs.declared.{Went.Went, Handed.Handed}
 use Rattle.telling.specs.Telling.{Speaker, speaker, speakerIn, Fed, feed, ToldPiece}

@@ -16,7 +16,8 @@ use Rattle.expecting.specs.Expected.{expectedWords}
 use Rattle.asking.specs.Asked.{Texts, texts, asked}
 use Rattle.saying.specs.Words.{badLineWords, saidLine}
 use Rattle.telling.specs.declared.Kind.{Kind}
-use Rattle.telling.specs.Told.{told, joined, nextNumber, toldLines}
+use Rattle.spots.specs.Spots.{nextNumber}
+use Rattle.telling.specs.Told.{told, joined, toldLines}
 use Rattle.telling.specs.Telling.{kept, Speaker, speaker, Fed, fed, feedByte, feed}
 
 asked-long : (number : ℕ) (line : List ℕ) → 1023 < length line → asked number line ≡ texts [] (expectedWords number 13)

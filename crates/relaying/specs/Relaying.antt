@@ -3,7 +3,8 @@
 use Prim.Native.Nat.{ℕ}
 use mathlib.Core.List.{List}
 use lib.ListN.{replicate}
-use Rattle.telling.specs.declared.{Kind.Kind, Spot.Spot}
+use Rattle.spots.specs.declared.Spot.{Spot}
+use Rattle.telling.specs.declared.Kind.{Kind}
 use Rattle.telling.specs.Telling.{kept}
 use Rattle.delivering.specs.declared.Handed.{Handed}
 use Rattle.conveying.specs.Conveying.{Relayed}

@@ -3,10 +3,10 @@
 use conveying::relay_lines;
 use delivering::Handed;
 use delivering::Pipes;
+use spots::Spot;
 use telling::KEPT;
 use telling::Kind;
 use telling::MOST;
-use telling::Spot;
 ghost use Rattle.relaying.specs.Relaying.{RelayedNew};
 
 // What one read brings at most.

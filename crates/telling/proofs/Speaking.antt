@@ -12,7 +12,8 @@ use borrow.Rule.Slice.PartMut.{midOf, postOf, putMid}
 use Rattle.phrases.specs.Phrases.{Added}
 use Rattle.phrases.proofs.Adding.{added-then, added-length}
 use Rattle.asking.specs.Asked.{Texts, texts}
-use Rattle.telling.specs.declared.{Kind.Kind, Spot.Spot, Spoken.Spoken}
+use Rattle.spots.specs.declared.Spot.{Spot}
+use Rattle.telling.specs.declared.{Kind.Kind, Spoken.Spoken}
 use Rattle.telling.specs.Told.{joined}
 use Rattle.telling.specs.Telling.{kept, Keeps, Kept, most, Speaker, speaker, speakerIn, Fed, fed, feedByte, feed, Room, TookByte, PieceRoom, ToldPiece}
 

@@ -10,8 +10,10 @@ use Rattle.phrases.specs.Phrases.{Added}
 use Rattle.asking.specs.declared.Told.{Told}
 use Rattle.asking.specs.Asked.{Texts, texts}
 use Rattle.saying.specs.Words.{saidLine}
-use Rattle.telling.specs.declared.{Kind.Kind, Spot.Spot, Spoken.Spoken}
-use Rattle.telling.specs.Told.{told, joined, nextNumber}
+use Rattle.spots.specs.declared.Spot.{Spot}
+use Rattle.telling.specs.declared.{Kind.Kind, Spoken.Spoken}
+use Rattle.spots.specs.Spots.{nextNumber}
+use Rattle.telling.specs.Told.{told, joined}
 
 -- How many characters of a line are kept, one more than it may have; and how many bytes a line gives at most.
 abbrev pub kept : ℕ
@@ -54,9 +56,6 @@ keptLine held len = take len held
 
 abbrev pub speakerIn : List ℕ → Spot → Speaker
 speakerIn held spot = speaker (keptLine held (spot .len)) (spot .number)
-
-abbrev pub nextSpot : Spot → Spot
-nextSpot spot = record { len = 0; number = nextNumber (spot .number) }
 
 pub record Keeps (held : List ℕ) (len : ℕ) : Type 0 where
   pub long : length held ≡ kept

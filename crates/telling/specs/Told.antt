@@ -1,10 +1,11 @@
 -- What a program writes for its input, line by line: for a line of commands the line of a call or a message, for an answer line its words.
 -- Assumes nothing.
-use Prim.Native.Nat.{ℕ, _+_, _%_, _^_}
+use Prim.Native.Nat.{ℕ}
 use mathlib.Core.List.{List, [], _∷_, _++_}
 use Rattle.buffer.specs.Buffer.{linesFrom}
 use Rattle.asking.specs.Asked.{Texts, texts, asked}
 use Rattle.saying.specs.Words.{saidLine}
+use Rattle.spots.specs.Spots.{nextNumber}
 use Rattle.telling.specs.declared.Kind.{Kind}
 
 abbrev pub told : Kind → ℕ → List ℕ → Texts
@@ -13,10 +14,6 @@ told Kind.Say number line = texts (saidLine number line) []
 
 abbrev pub joined : Texts → Texts → Texts
 joined a b = texts (a .out ++ b .out) (a .err ++ b .err)
-
--- Lines are counted in 64 bits.
-abbrev pub nextNumber : ℕ → ℕ
-nextNumber n = (n + 1) % 2 ^ 64
 
 unfoldable pub toldLines : Kind → ℕ → List (List ℕ) → Texts
 toldLines kind number [] = texts [] []

@@ -4,12 +4,13 @@ use asking::LONGEST;
 use asking::Told;
 use asking::ask_line;
 use saying::say_line;
-ghost use mathlib.Core.Path.{_≡_};
+use spots::Spot;
+use spots::next_spot;
 ghost use Prim.Native.Nat.{_≤_};
 ghost use lib.ListN.{length};
 ghost use Rattle.asking.specs.Asked.{Wrote};
 ghost use Rattle.telling.specs.Told.{told};
-ghost use Rattle.telling.specs.Telling.{Keeps, Kept, Ends, nextSpot, Room, TookByte, PieceRoom, ToldPiece};
+ghost use Rattle.telling.specs.Telling.{Keeps, Kept, Ends, Room, TookByte, PieceRoom, ToldPiece};
 
 // What the lines are.
 pub enum Kind {
@@ -22,12 +23,6 @@ pub const KEPT: usize = LONGEST + 1;
 
 // No line gives more bytes.
 pub const MOST: usize = 128;
-
-// How many characters of the line that is not finished are kept, and its number.
-pub struct Spot {
-    pub len: usize,
-    pub number: u64,
-}
 
 // Where the input stands, and how many bytes stand at the front of the output and of the messages.
 pub struct Spoken {
@@ -67,15 +62,6 @@ fn keep(held: &mut [u8], len: usize, c: u8) -> usize
         return len + 1;
     }
     len
-}
-
-fn next_spot(spot: Spot) -> Spot
-    ensures { λ r. ⌜ r ≡ nextSpot spot ⌝ }
-{
-    Spot {
-        len: 0,
-        number: std::num::wrapping_add_u64(spot.number, 1),
-    }
 }
 
 // The line has ended: its texts go behind what stands in the buffers.

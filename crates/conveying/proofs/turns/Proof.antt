@@ -7,7 +7,7 @@ use mathlib.Core.Bool as Bool
 use mathlib.Core.List.{List}
 use lib.ListN.{length}
 use borrow.Author.Needs.{needs}
-use Rattle.telling.specs.declared.Spot.{Spot}
+use Rattle.spots.specs.declared.Spot.{Spot}
 use Rattle.delivering.specs.Delivering.{isOn}
 use Rattle.conveying.specs.Conveying.{TurnRoom, mostTurns}
 use Rattle.conveying.proofs.Chain.{still-room, Reached, reach-first, reach-next, renumber, looped}

@@ -1,8 +1,8 @@
--- `telling::next_spot` meets its contract.
+-- `spots::next_spot` meets its contract.
 -- Assumes nothing.
 use borrow.Author.Needs.{needs}
-use Rattle.telling.proofs.next_spot.Statement.{statement}
-use Rattle.telling.proofs.next_spot.Tie as tie
+use Rattle.spots.proofs.next_spot.Statement.{statement}
+use Rattle.spots.proofs.next_spot.Tie as tie
 
 wrapping-add-u64-requires : tie.Need-wrapping-add-u64-requires
 wrapping-add-u64-requires c κs = search needs

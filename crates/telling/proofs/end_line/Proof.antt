@@ -3,7 +3,7 @@
 use Rattle.telling.proofs.Speaking.{added-mid}
 use mathlib.Core.Path.{subst}
 use Rattle.telling.specs.Telling.{Keeps, speakerIn}
-use Rattle.telling.specs.declared.Spot.{Spot}
+use Rattle.spots.specs.declared.Spot.{Spot}
 use lib.Seq.{length-take-le}
 use mathlib.Core.Path.{sym, ap}
 use native.Mathlib.Omega.{arith}
