@@ -1,1 +1,1 @@
-pub mod Asking
+mod Asking

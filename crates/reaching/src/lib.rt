@@ -1,16 +1,16 @@
-// How far the passes of a list have come when a picture has its turn, and the reason for the picture there, for crate `judging`. Each step of a
+// How far the passes of a list have come when a picture has its turn, and the reason for the picture there, for crate `one_slot`. Each step of a
 // pass is `pass_step`.
 use choosing::is_b;
 use def::RefpCall;
 use keys::PLACES;
 use keys::SLOTS;
+use one_step::on_side;
+use one_step::pass_step;
+use one_step::place_of;
 use ordering::LAYER_UNIT;
 use ordering::order_key;
 use passes::PassRule;
 use passes::Walk;
-use passes::on_side;
-use passes::pass_step;
-use passes::place_of;
 use reasons::Reason;
 use ruling::rule_of;
 use walking::passes;

@@ -2,8 +2,8 @@
 // walk with what it gives.
 use def::RefpCall;
 use def::SliceType;
+use one_step::layer_below;
 use passes::PassRule;
-use passes::layer_below;
 ghost use mathlib.Core.Path.{_≡_};
 ghost use lib.Dec.{ltb};
 ghost use Rattle.ordering.specs.Order.{Key};

@@ -1,10 +1,10 @@
-// The passes over the ordered pictures that fill one list, for crates `choosing` and `reaching`; each picture's turn is `pass_step` of crate `passes`.
+// The passes over the ordered pictures that fill one list, for crates `choosing` and `reaching`; each picture's turn is `pass_step` of crate `one_step`.
 use keys::PLACES;
 use keys::SLOTS;
+use one_step::pass_step;
+use one_step::place_of;
 use passes::PassRule;
 use passes::Walk;
-use passes::pass_step;
-use passes::place_of;
 ghost use Rattle.ordering.specs.InNumbers.{keysIn};
 ghost use Rattle.passes.specs.Passes.{bothWays, listOf};
 ghost use Rattle.passes.specs.InNumbers.{askIn, PassRoom, PassDone, PassesRoom, PassesDone};

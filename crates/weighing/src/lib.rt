@@ -1,9 +1,9 @@
 // The reason for a marked picture by how far its pass has come at its turn: the row of conditions, for crate `reaching`.
+use one_step::is_old;
+use one_step::on_side;
+use one_step::pass_step;
 use ordering::POC_UNIT;
 use passes::PassRule;
-use passes::is_old;
-use passes::on_side;
-use passes::pass_step;
 use reasons::Reason;
 ghost use mathlib.Core.Path.{_≡_};
 ghost use mathlib.Core.Bool.{true};

@@ -1,8 +1,8 @@
--- `judging::no_list` meets its contract: whether the slot holds a picture tells. Assumes nothing.
+-- `one_slot::no_list` meets its contract: whether the slot holds a picture tells. Assumes nothing.
 use mathlib.Core.Path.{sym, _∙_}
 use borrow.Author.Needs.{needs}
-use Rattle.judging.proofs.no_list.Statement.{statement}
-use Rattle.judging.proofs.no_list.Tie as tie
+use Rattle.one_slot.proofs.no_list.Statement.{statement}
+use Rattle.one_slot.proofs.no_list.Tie as tie
 
 is-held-requires : tie.Need-is-held-requires
 is-held-requires c κs = search needs

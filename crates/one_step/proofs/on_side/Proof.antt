@@ -1,6 +1,6 @@
--- `passes::on_side` meets its contract: the side is the direction's. Assumes nothing.
-use Rattle.passes.proofs.on_side.Statement.{statement}
-use Rattle.passes.proofs.on_side.Tie as tie
+-- `one_step::on_side` meets its contract: the side is the direction's. Assumes nothing.
+use Rattle.one_step.proofs.on_side.Statement.{statement}
+use Rattle.one_step.proofs.on_side.Tie as tie
 
 returns : tie.Need-returns
 returns c = rw (c .if1 .taken)

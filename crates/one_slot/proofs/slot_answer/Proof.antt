@@ -1,4 +1,4 @@
--- `judging::slot_answer` meets its contract: 14, not marked, or the reason. Assumes nothing.
+-- `one_slot::slot_answer` meets its contract: 14, not marked, or the reason. Assumes nothing.
 use mathlib.Core.Path.{_≡_, sym, _∙_}
 use mathlib.Core.Bool.{true}
 use mathlib.Core.List.{List, [], map}
@@ -9,9 +9,9 @@ use borrow.Author.Needs.{needs}
 use borrow.Author.Tests.{not-true, not-false}
 use Rattle.def.specs.State.{noSlot, isPresent}
 use Rattle.keys.specs.Keys.{slotAt}
-use Rattle.judging.proofs.Asking.{held-below, told-not-marked, told-reason}
-use Rattle.judging.proofs.slot_answer.Statement.{statement}
-use Rattle.judging.proofs.slot_answer.Tie as tie
+use Rattle.one_slot.proofs.SlotLaws.{held-below, told-not-marked, told-reason}
+use Rattle.one_slot.proofs.slot_answer.Statement.{statement}
+use Rattle.one_slot.proofs.slot_answer.Tie as tie
 
 -- the slot holds a picture
 held : (c : tie.Else1) (rows : List ℕ) → isPresent (getD (map (slotAt rows) (c .before .before .before .args .keys .now)) (c .before .before .before .args .slot) noSlot) ≡ true

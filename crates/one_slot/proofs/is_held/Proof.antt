@@ -1,11 +1,11 @@
--- `judging::is_held` meets its contract: past the last slot there is none, and before that the key tells. Assumes nothing.
+-- `one_slot::is_held` meets its contract: past the last slot there is none, and before that the key tells. Assumes nothing.
 use mathlib.Core.Path.{sym, ap, _∙_}
 use native.Mathlib.Omega.{arith}
 use borrow.Author.Needs.{needs}
 use Rattle.def.specs.declared.{Slot.Slot}
-use Rattle.judging.proofs.Asking.{slot-there, slot-missing}
-use Rattle.judging.proofs.is_held.Statement.{statement}
-use Rattle.judging.proofs.is_held.Tie as tie
+use Rattle.one_slot.proofs.SlotLaws.{slot-there, slot-missing}
+use Rattle.one_slot.proofs.is_held.Statement.{statement}
+use Rattle.one_slot.proofs.is_held.Tie as tie
 
 returns : tie.Need-returns
 returns c rows =
