@@ -1,5 +1,5 @@
 // Which marked pictures the reference lists of a slice hold, and why a list call takes none. Nothing of the state or of the lists is written
-// here; the list call of crate `refp` is built on it.
+// here; the list call of crate `filling` is built on it.
 use def::Answer;
 use def::MAX_NUM_REF_PICS;
 use def::RefpCall;
