@@ -14,7 +14,7 @@ use machine::Made;
 use machine::Scalars;
 use making::make_call;
 use making::reads_state;
-use whole::is_whole;
+use wholeness::is_whole;
 ghost use mathlib.Core.Path.{_≡_};
 ghost use Rattle.machine.specs.Step.{step};
 ghost use mathlib.Core.List.{List};

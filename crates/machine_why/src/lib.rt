@@ -12,7 +12,7 @@ use questions::show_why;
 use reasons::WhyAnswer;
 use registers::rest_of;
 use sizing::is_sized;
-use whole::is_whole;
+use wholeness::is_whole;
 ghost use mathlib.Core.Path.{_≡_};
 ghost use mathlib.Core.List.{List};
 ghost use Prim.Native.Nat.{ℕ};

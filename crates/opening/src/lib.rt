@@ -27,7 +27,7 @@ pub fn open_state(pm: EvcPm, keys: &mut [u64], rows: &mut [u32]) -> Opened
     ensures { λ r. ⌜ Opens pm (listsIn (now (rows .entry))) (now (keys .exit)) (now (rows .exit)) r ⌝ }
 {
     let rest = take_apart(pm, keys, rows);
-    let is_whole = whole::is_whole(keys, rest);
+    let is_whole = wholeness::is_whole(keys, rest);
     Opened { is_whole, rest }
 }
 

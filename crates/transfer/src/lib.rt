@@ -15,7 +15,7 @@ use registers::store;
 use sizing::is_sized;
 use stepping::parts::put_machine;
 use stepping::parts::take_machine;
-use whole::is_whole;
+use wholeness::is_whole;
 ghost use mathlib.Core.Path.{_≡_};
 ghost use mathlib.Core.Bool.{true};
 ghost use lib.ListN.{length};

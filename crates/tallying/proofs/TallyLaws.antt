@@ -20,9 +20,9 @@ use Rattle.seq.proofs.Tests.{lt-or-ge}
 use Rattle.seq.proofs.Walks.{drop-step}
 use Rattle.seq.specs.Lists.{allOf, anyOf, countIf, select, allDiffer}
 use Rattle.def.specs.State.{slots}
-use Rattle.whole.specs.declared.Tally.{Tally}
+use Rattle.tallying.specs.declared.Tally.{Tally}
 use Rattle.keys.specs.Keys.{keyPresent, keyMarked, keyRef, keyBuffer}
-use Rattle.whole.specs.Tallies.{Roomy, noTally, strayed, gathered, tallied, tallyAll}
+use Rattle.tallying.specs.Tallies.{Roomy, noTally, strayed, gathered, tallied, tallyAll}
 
 -- ---- numbers as sets of bits
 

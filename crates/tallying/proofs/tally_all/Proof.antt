@@ -1,15 +1,15 @@
--- `whole::tally_all` meets its contract: what is gathered so far, with what is left, gives what all keys give. Assumes nothing.
+-- `tallying::tally_all` meets its contract: what is gathered so far, with what is left, gives what all keys give. Assumes nothing.
 use mathlib.Core.Path.{_≡_, refl}
 use mathlib.Core.List.{List}
 use Prim.Native.Nat.{ℕ, _+_, _≤_, _<_, _-_, _%_}
 use native.Mathlib.Omega.{arith}
 use lib.ListN.{length, getD}
 use Rattle.def.specs.State.{slots}
-use Rattle.whole.specs.declared.Tally.{Tally}
-use Rattle.whole.specs.Tallies.{Roomy, tallied}
-use Rattle.whole.proofs.TallyLaws.{Passing, passing-none, passing-room, passing-turn, passing-end}
-use Rattle.whole.proofs.tally_all.Statement.{statement}
-use Rattle.whole.proofs.tally_all.Tie as tie
+use Rattle.tallying.specs.declared.Tally.{Tally}
+use Rattle.tallying.specs.Tallies.{Roomy, tallied}
+use Rattle.tallying.proofs.TallyLaws.{Passing, passing-none, passing-room, passing-turn, passing-end}
+use Rattle.tallying.proofs.tally_all.Statement.{statement}
+use Rattle.tallying.proofs.tally_all.Tie as tie
 
 -- Three keys from place i on.
 module _ (keys : List ℕ) {t : Tally} {i : ℕ} (p : Passing keys t i) (more : i + 2 < length keys) (long : length keys ≡ slots) where

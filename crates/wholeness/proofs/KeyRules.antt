@@ -19,11 +19,11 @@ use Rattle.def.specs.State.{slots, listPlaces, highestPoc, isPresent, isMarked}
 use Rattle.keys.specs.declared.Rest.{Rest}
 use Rattle.keys.specs.Keys.{keyPresent, keyMarked, keyRef, keyOut, keyBuffer, keyLayer, keyNumber, slotAt, stands}
 use Rattle.keys.proofs.KeyLaws.{buffers-same}
 use Rattle.whole.proofs.Laws.{six}
-use Rattle.whole.specs.declared.Tally.{Tally}
+use Rattle.tallying.specs.declared.Tally.{Tally}
 use Rattle.whole.specs.Whole.{whole, places, heldBuffers, zeroIfEmpty, pocFits}
-use Rattle.whole.specs.Tallies.{noTally, tallied, tallyAll}
-use Rattle.whole.proofs.TallyLaws.{Gathered, gathered-all, heldBy, zeroIfNone, lowIfPicture, below27, unseen}
+use Rattle.tallying.specs.Tallies.{noTally, tallied, tallyAll}
+use Rattle.tallying.proofs.TallyLaws.{Gathered, gathered-all, heldBy, zeroIfNone, lowIfPicture, below27, unseen}
 
 -- ---- one key
 

@@ -1,12 +1,12 @@
--- `whole::tally_key` meets its contract. Assumes nothing.
+-- `tallying::tally_key` meets its contract. Assumes nothing.
 use mathlib.Core.Path.{sym, _∙_}
 use Prim.Native.Nat.{_/_, _%_}
 use native.Mathlib.Omega.{arith}
 use borrow.Author.Needs.{needs}
 use borrow.Author.Tests.{not-true, not-false}
-use Rattle.whole.proofs.TallyLaws.{shifted, absent, there}
-use Rattle.whole.proofs.tally_key.Statement.{statement}
-use Rattle.whole.proofs.tally_key.Tie as tie
+use Rattle.tallying.proofs.TallyLaws.{shifted, absent, there}
+use Rattle.tallying.proofs.tally_key.Statement.{statement}
+use Rattle.tallying.proofs.tally_key.Tie as tie
 
 is-present-requires : tie.Need-is-present-requires
 is-present-requires c κs = search needs

@@ -5,7 +5,7 @@ use mathlib.Core.Bool.{cond}
 use mathlib.Core.List.{List, [], _∷_}
 use lib.Bits.{bitOr}
 use Rattle.keys.specs.Keys.{keyPresent, keyBuffer}
-use Rattle.whole.specs.declared.Tally.{Tally}
+use Rattle.tallying.specs.declared.Tally.{Tally}
 
 abbrev pub noTally : Tally
 noTally = record { stray = 0; high = 0; occupied = 0; marked = 0; set = 0; sum = 0 }

@@ -1,8 +1,8 @@
--- `whole::is_whole` meets its contract: the tests of what was gathered are the rules, for any rows. Assumes nothing.
+-- `wholeness::is_whole` meets its contract: the tests of what was gathered are the rules, for any rows. Assumes nothing.
 use borrow.Author.Needs.{needs}
-use Rattle.whole.proofs.KeyRules.{whole-told}
-use Rattle.whole.proofs.is_whole.Statement.{statement}
-use Rattle.whole.proofs.is_whole.Tie as tie
+use Rattle.wholeness.proofs.KeyRules.{whole-told}
+use Rattle.wholeness.proofs.is_whole.Statement.{statement}
+use Rattle.wholeness.proofs.is_whole.Tie as tie
 
 tally-all-requires : tie.Need-tally-all-requires
 tally-all-requires c κs = search needs

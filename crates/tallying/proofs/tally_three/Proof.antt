@@ -1,4 +1,4 @@
--- `whole::tally_three` meets its contract: the key of an empty slot adds nothing, and else each key is gathered in turn. Assumes nothing.
+-- `tallying::tally_three` meets its contract: the key of an empty slot adds nothing, and else each key is gathered in turn. Assumes nothing.
 use mathlib.Core.Path.{_≡_, refl, sym, ap, _∙_}
 use mathlib.Core.Bool.{true, _&&_}
 use Prim.Native.Nat.{ℕ}
@@ -7,10 +7,10 @@ use lib.Dec.{eqb}
 use borrow.Author.Needs.{needs}
 use borrow.Author.Tests.{eqb-true}
 use Rattle.seq.proofs.Tests.{and-left, and-right}
-use Rattle.whole.specs.declared.Tally.{Tally}
-use Rattle.whole.specs.Tallies.{tallied}
-use Rattle.whole.proofs.tally_three.Statement.{statement}
-use Rattle.whole.proofs.tally_three.Tie as tie
+use Rattle.tallying.specs.declared.Tally.{Tally}
+use Rattle.tallying.specs.Tallies.{tallied}
+use Rattle.tallying.proofs.tally_three.Statement.{statement}
+use Rattle.tallying.proofs.tally_three.Tie as tie
 
 empty : (t : Tally) (k : ℕ) → k ≡ 0 → tallied t k ≡ t
 empty t k e =
