@@ -9,7 +9,7 @@ use Rattle.hex.specs.Hex.{digitsOf, sum8}
 use Rattle.framing.specs.Framing.{wholeOf}
 use Rattle.line.specs.Calls.{callBytes}
 use Rattle.phrases.specs.Phrases.{Added}
-use Rattle.commands.specs.declared.Command.{Command}
+use Rattle.concluding.specs.declared.Command.{Command}
 use Rattle.commands.specs.Commands.{readCommand}
 use Rattle.expecting.specs.Expected.{expectedWords}
 

@@ -1,6 +1,6 @@
 // A line of a command turned into the line of its call, or into a message that says what was expected.
-use commands::Command;
 use commands::read_command;
+use concluding::Command;
 use expecting::SHORTER;
 use expecting::complain;
 use line::Call;

@@ -16,7 +16,8 @@ use Rattle.drafts.specs.declared.Draft.{Draft}
 use Rattle.progress.specs.Progress.{begun}
 use Rattle.fitting.specs.Steps.{step}
 use Rattle.commands.specs.declared.Reading.{Reading}
-use Rattle.commands.specs.Commands.{stepOver, finished, readCommand}
+use Rattle.concluding.specs.Concluded.{finished}
+use Rattle.commands.specs.Commands.{stepOver, readCommand}
 use Rattle.commands.specs.Feeding.{reading, beginning, endWord, feed, fedDraft}
 
 -- A word that was begun has a code above 1.

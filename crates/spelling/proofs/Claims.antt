@@ -21,8 +21,9 @@ use Rattle.drafts.specs.declared.Draft.{Draft}
 use Rattle.drafts.specs.Drafts.{draft, started}
 use Rattle.progress.specs.Progress.{begun}
 use Rattle.fitting.specs.Steps.{step}
-use Rattle.commands.specs.declared.Command.{Command}
-use Rattle.commands.specs.Commands.{finished, stepOver, readCommand}
+use Rattle.concluding.specs.declared.Command.{Command}
+use Rattle.concluding.specs.Concluded.{finished}
+use Rattle.commands.specs.Commands.{stepOver, readCommand}
 use Rattle.spelling.specs.Spelling.{signedDecimal, sliceName, flagNames, isSet, flagWords, callWords, spaced, sayCommand}
 use Rattle.spelling.specs.Claims.{SaidIsRead, ShortForms}
 use Rattle.spelling.proofs.Digits.{DigitsRead, digits-read, read-decimal, number-value, number-fits}

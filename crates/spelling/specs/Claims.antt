@@ -8,7 +8,7 @@ use Rattle.line.specs.Calls.{callBytes}
 use Rattle.line.specs.declared.Call.{Call}
 use Rattle.line.specs.Claims.{CallFits}
 use Rattle.phrases.specs.Phrases.{chars}
-use Rattle.commands.specs.declared.Command.{Command}
+use Rattle.concluding.specs.declared.Command.{Command}
 use Rattle.commands.specs.Commands.{readCommand}
 use Rattle.asking.specs.Asked.{texts, asked}
 use Rattle.spelling.specs.Spelling.{sayCommand}

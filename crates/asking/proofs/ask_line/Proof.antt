@@ -1,7 +1,7 @@
 -- `asking::ask_line` meets its contract: its length, and then what the line says, decides.
 -- Assumes nothing.
 use Rattle.asking.specs.Asked.{askedFor, asked}
-use Rattle.commands.specs.Commands.{CommandFits}
+use Rattle.concluding.specs.Concluded.{CommandFits}
 use lib.ListN.{length}
 use borrow.Author.Tests.{lt-ltb, le-ltb}
 use native.Mathlib.Omega.{arith}

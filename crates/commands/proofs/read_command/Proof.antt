@@ -8,7 +8,7 @@ use lib.ListN.{length, drop, drop-of-length-le}
 use borrow.Author.Needs.{needs}
 use Rattle.commands.specs.declared.Reading.{Reading}
 use Rattle.commands.specs.Feeding.{beginning, feed, fedDraft}
-use Rattle.commands.specs.Commands.{finished}
+use Rattle.concluding.specs.Concluded.{finished}
 use Rattle.commands.proofs.Fed.{fed-command, feed-turn}
 use Rattle.commands.proofs.read_command.Statement.{statement}
 use Rattle.commands.proofs.read_command.Tie as tie

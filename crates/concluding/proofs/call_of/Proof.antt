@@ -1,11 +1,11 @@
--- `commands::call_of` meets its contract: each way out knows which test decided.
+-- `concluding::call_of` meets its contract: each way out knows which test decided.
 -- Assumes nothing.
 use Prim.Native.Nat.{_^_, _<_}
 use Rattle.line.specs.Claims.{CallFits}
 use native.Mathlib.Omega.{arith}
 use borrow.Author.Tests.{eq-eqb, ne-eqb}
-use Rattle.commands.proofs.call_of.Statement.{statement}
-use Rattle.commands.proofs.call_of.Tie as tie
+use Rattle.concluding.proofs.call_of.Statement.{statement}
+use Rattle.concluding.proofs.call_of.Tie as tie
 
 -- the fields fit their bytes
 bounds : (c : tie.Start) → (c .args .d .first < 256) × (c .args .d .number < 2 ^ 32) × (c .args .d .layer < 256) × (c .args .d .span < 2 ^ 32) × (c .args .d .limit < 256)

@@ -1,10 +1,10 @@
--- `commands::finish` meets its contract: each way out knows which test decided.
+-- `concluding::finish` meets its contract: each way out knows which test decided.
 -- Assumes nothing.
 use mathlib.Core.Path.{sym, _∙_}
 use borrow.Author.Tests.{eq-eqb, ne-eqb}
 use borrow.Author.Needs.{needs}
-use Rattle.commands.proofs.finish.Statement.{statement}
-use Rattle.commands.proofs.finish.Tie as tie
+use Rattle.concluding.proofs.finish.Statement.{statement}
+use Rattle.concluding.proofs.finish.Tie as tie
 
 returns : tie.Need-returns
 returns c = (rw (eq-eqb (c .before .before .args .d .want) 0 (c .if1 .taken)), tt)
