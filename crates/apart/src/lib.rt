@@ -1,4 +1,4 @@
-// A state by value taken apart into keys, rows and the rest, for crates `opening` and `stepping`; crate `together` puts it together again. Any state
+// A state by value taken apart into keys, rows and the rest, for crates `opening` and `parting`; crate `together` puts it together again. Any state
 // may be taken apart: `take_slot` gives a slot that breaks a rule by itself a key that no whole state has.
 use def::EvcPm;
 use def::Slot;

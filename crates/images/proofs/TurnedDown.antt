@@ -9,25 +9,18 @@ use lib.Dec.{eqb}
 use lib.ListN.{length}
 use Rattle.def.specs.Refusals.{NumberInUse}
 use Rattle.seq.proofs.Tests.{and-left}
-use Rattle.def.specs.declared.EvcRefP.{EvcRefP}
-use Rattle.def.specs.declared.CopyResult.{CopyResult}
-use Rattle.refp.proofs.CopyLaws.{copy-refused-unchanged}
 use Rattle.line.specs.Calls.{callFrom}
 use Rattle.line.specs.declared.Line.{Line}
 use Rattle.line.specs.declared.Line.the-variants.{Good, Bad}
-use Rattle.image.specs.Image.{imageLength, Bytes, refpAt, refpOf, isImage}
+use Rattle.image.specs.Image.{imageLength, Bytes, isImage}
 use Rattle.image.proofs.BytesKept.{bytes-kept}
 use Rattle.machine.specs.Step.{newMachine}
-use Rattle.machine.proofs.EveryCall.{refused-answer, call-unchanged}
-use Rattle.exchange.specs.Lent.{badLine, Left, left, machineOf, machineBytes}
-use Rattle.images.specs.Copied.{isEntry, copyInto, withLists, relisted, copied}
+use Rattle.machine.proofs.EveryCall.{call-unchanged}
+use Rattle.exchange.specs.Lent.{badLine, left, machineOf, machineBytes}
 use Rattle.wire.specs.Wire.{answerLength}
 use Rattle.images.specs.Called.{Answered, answered, answerTo, renewed, called}
 
--- from what a definition leaves to what a buffer holds
-pub left-kept : {r : ℕ} {image image′ : List ℕ} {x : Left} → left r image′ ≡ x → (NumberInUse (x .given) → x .image ≡ image) → NumberInUse r → image′ ≡ image
-left-kept e f t = ap (λ (y : Left). y .image) e ∙ f (subst NumberInUse (ap (λ (y : Left). y .given) e) t)
-
+-- from what a definition leaves to what the buffers hold
 pub answered-kept : {r : ℕ} {image image′ answer′ : List ℕ} {x : Answered} → answered r image′ answer′ ≡ x → (NumberInUse (x .given) → x .image ≡ image) → NumberInUse r → image′ ≡ image
 answered-kept e f t = ap (λ (y : Answered). y .image) e ∙ f (subst NumberInUse (ap (λ (y : Answered). y .given) e) t)
 
@@ -56,21 +49,4 @@ module _ (image : List ℕ) (bytes : Bytes image) where
 
       go : (b : Bool) → (isImage image && long) ≡ b → NumberInUse (result b .given) → result b .image ≡ image
       go true e u = line-kept (and-left (isImage image) long e) (callFrom call) u
-      go false e u = refl
-
-  pub copy-kept : (cnt lidx : ℕ) (entry : List ℕ) → NumberInUse (copied image cnt lidx entry .given) → copied image cnt lidx entry .image ≡ image
-  unfolding copied
-  copy-kept cnt lidx entry t = go (isImage image && isEntry entry) refl t
-    where
-      r : CopyResult
-      r = copyInto image cnt lidx entry
-
-      result : Bool → Left
-      result b = cond b (relisted image r) (left badLine image)
-
-      go : (b : Bool) → (isImage image && isEntry entry) ≡ b → NumberInUse (result b .given) → result b .image ≡ image
-      go true e u =
-          ap (λ (l : List EvcRefP). machineBytes (withLists (machineOf image) l))
-          (refused-answer 0 (r .answer) u (copy-refused-unchanged (refpOf image) cnt lidx (refpAt entry 0)))
-          ∙ bytes-kept image bytes (and-left (isImage image) (isEntry entry) e)
       go false e u = refl

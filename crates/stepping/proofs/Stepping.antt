@@ -24,7 +24,8 @@ use Rattle.machine.proofs.EveryCall.{call-unchanged, call-sound}
 use Rattle.machine.proofs.Running.{not-whole-step}
 use Rattle.running.specs.Slices.{Slices, slices, scalarsAt, sized, replyTo, Leaves}
 use Rattle.running.proofs.Answering.{scalars-are}
-use Rattle.stepping.specs.Parts.{TakenMachine}
+use Rattle.parting.specs.Parts.{TakenMachine}
+use Rattle.parting.proofs.Parted.{same-machine}
 
 abbrev pub withRecord : Machine → EvcPoc → Machine
 withRecord m p = record { pm = m .pm; refp = m .refp; poc = p }
@@ -70,9 +71,6 @@ call-came {reply} {call} {s} {keys} {rows} {registers} {after} long thirteen hel
 -- ---- a machine taken apart
 
 module _ {m : Machine} {keys rows : List ℕ} {s : Scalars} (taken : TakenMachine m keys rows s) where
-  pub same-machine : whole (m .pm) ≡ true → machineIn keys rows s ≡ m
-  same-machine w = rw (taken .same-state w, taken .same-lists, taken .same-record)
-
   all-slots : whole (m .pm) ≡ true → length (m .pm .pic) ≡ slots
   all-slots w = ap (λ (q : EvcPm). length (q .pic)) (sym (taken .same-state w)) ∙ length-map keys (slotAt rows) ∙ taken .sized .slots-long
 
@@ -82,7 +80,7 @@ module _ {m : Machine} {keys rows : List ℕ} {s : Scalars} (taken : TakenMachin
       where
         pick : (b : Bool) → readsState call ≡ b → (w : Bool) → whole (m .pm) ≡ w → step (machineIn keys rows s) call .reply ≡ step m call .reply
         pick false e w f = on-record m (machineIn keys rows s) call e (taken .same-record) .replies
-        pick true e true f = ap (λ (n : Machine). step n call .reply) (same-machine f)
+        pick true e true f = ap (λ (n : Machine). step n call .reply) (same-machine taken f)
         pick true e false f = rw (not-whole-step (machineIn keys rows s) call e (taken .same-whole ∙ f), not-whole-step m call e f) refl
 
     comes-to : (n : Machine) → n ≡ step m call .machine → stepped (reply) n ≡ step m call
@@ -109,7 +107,7 @@ module _ {m : Machine} {keys rows : List ℕ} {s : Scalars} (taken : TakenMachin
           pick false f = absurd (accepted (rw (seven f) (refusals-in-use StateNotWhole)))
 
       reached : machineIn keys′ rows′ after ≡ step m call .machine
-      reached = came .machine-is ∙ ap (λ (n : Machine). step n call .machine) (same-machine was-whole)
+      reached = came .machine-is ∙ ap (λ (n : Machine). step n call .machine) (same-machine taken was-whole)
 
       pub runs : Runs keys′ rows′ after
       runs = record {

@@ -8,16 +8,14 @@ use line::Line;
 use machine::Machine;
 use machine::Stepped;
 use making::reads_state;
-use parts::put_machine;
-use parts::take_machine;
+use parting::put_machine;
+use parting::take_machine;
 use registers::REGISTERS;
 use registers::store;
 use running::reply_on;
 use running::scalars_at;
 ghost use mathlib.Core.Path.{_≡_};
 ghost use Rattle.machine.specs.Step.{step};
-
-pub mod parts;
 
 // A derivation reads no state, and where that is not whole the arrays cannot say it: it stays as it came, as after a call that is turned down.
 pub fn step(m: Machine, call: Call) -> Stepped

@@ -1,4 +1,4 @@
-// A whole state by value put together from keys, rows and the rest, for crates `opening` and `stepping`.
+// A whole state by value put together from keys, rows and the rest, for crates `opening` and `parting`.
 use def::EvcPic;
 use def::EvcPm;
 use def::Slot;

@@ -19,8 +19,8 @@ use Rattle.image.specs.Image.{imageLength, isImage}
 use Rattle.machine.specs.declared.{Machine.Machine, Scalars.Scalars}
 use Rattle.machine.specs.Running.{machineIn}
 use Rattle.machine.specs.Lent.{slices, machineAt, sized}
-use Rattle.stepping.specs.Parts.{TakenMachine}
-use Rattle.stepping.proofs.Stepping.{same-machine}
+use Rattle.parting.specs.Parts.{TakenMachine}
+use Rattle.parting.proofs.Parted.{same-machine}
 use Rattle.exchange.specs.Lent.{badLine, notWhole, left, machineOf, machineBytes, ImageHolds}
 use Rattle.transfer.specs.Exchanged.{loadStatus, Loads, saved, Saves}
 

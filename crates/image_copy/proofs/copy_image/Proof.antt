@@ -13,7 +13,8 @@ use Rattle.image.specs.Image.{refpWidth, Bytes, isFlag, isImage}
 use Rattle.exchange.specs.Lent.{Left, left, machineOf, ImageHolds}
 use Rattle.image_copy.specs.Copied.{isEntry, copyInto, withLists, relisted, copied, Copies}
 use Rattle.image.proofs.BytesKept.{image-long}
-use Rattle.images.proofs.TurnedDown.{left-kept, copy-kept}
+use Rattle.exchange.proofs.Kept.{left-kept}
+use Rattle.image_copy.proofs.TurnedDown.{copy-kept}
 use borrow.Author.Needs.{needs}
 use Rattle.image_copy.proofs.copy_image.Statement.{statement}
 use Rattle.image_copy.proofs.copy_image.Tie as tie

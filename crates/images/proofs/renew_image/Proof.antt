@@ -9,7 +9,8 @@ use Rattle.image.specs.Image.{imageLength}
 use Rattle.images.specs.Called.{renewed, Renews}
 use Rattle.exchange.specs.Lent.{left, ImageHolds}
 use Rattle.machine.specs.Step.{newMachine}
-use Rattle.images.proofs.TurnedDown.{left-kept, new-kept}
+use Rattle.exchange.proofs.Kept.{left-kept}
+use Rattle.images.proofs.TurnedDown.{new-kept}
 use borrow.Author.Needs.{needs}
 use Rattle.images.proofs.renew_image.Statement.{statement}
 use Rattle.images.proofs.renew_image.Tie as tie

@@ -1,8 +1,8 @@
--- `stepping::parts::take_machine` meets its contract: by what its parts ensure. Assumes nothing.
+-- `parting::take_machine` meets its contract: by what its parts ensure. Assumes nothing.
 use mathlib.Core.Path.{refl, _∙_}
 use borrow.Author.Needs.{needs}
-use Rattle.stepping.proofs.parts.take_machine.Statement.{statement}
-use Rattle.stepping.proofs.parts.take_machine.Tie as tie
+use Rattle.parting.proofs.take_machine.Statement.{statement}
+use Rattle.parting.proofs.take_machine.Tie as tie
 
 take-lists-requires : tie.Need-take-lists-requires
 take-lists-requires c κs = search needs

@@ -8,7 +8,7 @@ use together::put_together;
 ghost use mathlib.Core.Path.{_≡_};
 ghost use Rattle.keys.specs.Keys.{Sized};
 ghost use Rattle.machine.specs.Running.{machineIn, Runs};
-ghost use Rattle.stepping.specs.Parts.{TakenMachine};
+ghost use Rattle.parting.specs.Parts.{TakenMachine};
 
 pub fn take_machine(m: Machine, keys: &mut [u64], rows: &mut [u32]) -> Scalars
     requires { ⌜ Sized (now keys) (now rows) ⌝ }

@@ -1,8 +1,8 @@
--- `stepping::parts::put_machine` meets its contract: by what its parts ensure. Assumes nothing.
+-- `parting::put_machine` meets its contract: by what its parts ensure. Assumes nothing.
 use mathlib.Core.Path.{refl}
 use borrow.Author.Needs.{needs}
-use Rattle.stepping.proofs.parts.put_machine.Statement.{statement}
-use Rattle.stepping.proofs.parts.put_machine.Tie as tie
+use Rattle.parting.proofs.put_machine.Statement.{statement}
+use Rattle.parting.proofs.put_machine.Tie as tie
 
 put-together-requires : tie.Need-put-together-requires
 put-together-requires c κs = search needs
