@@ -13,11 +13,11 @@ use Rattle.concluding.specs.declared.Command.{Command}
 -- The call of a complete draft.
 abbrev pub callOf : Draft → Call
 callOf d =
-    cond (eqb (d .call) 1) (Init (d .first) (d .layer))
+    cond (eqb (d .call) 1) (Init (d .lead) (d .layer))
     (cond (eqb (d .call) 2) GetEmptyPic
     (cond (eqb (d .call) 3) (PutPic (d .given % 16) (d .number) (d .layer) (d .span))
     (cond (eqb (d .call) 4) OutPic
-    (cond (eqb (d .call) 5) (RefpInit (d .first) (d .number) (d .layer) (d .span) (d .limit)) (PocDerivation (d .first) (d .layer))))))
+    (cond (eqb (d .call) 5) (RefpInit (d .lead) (d .number) (d .layer) (d .span) (d .limit)) (PocDerivation (d .lead) (d .layer))))))
 
 -- What a line says: nothing, where it has no word; a call; or what was expected, where a word did not fit or one was missing.
 abbrev pub finished : Draft → Command

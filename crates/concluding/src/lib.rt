@@ -20,7 +20,7 @@ fn call_of(d: Draft) -> Call
 {
     if d.call == 1 {
         return Call::Init {
-            max_pb_size: d.first,
+            max_pb_size: d.lead,
             max_num_ref_pics: d.layer,
         };
     }
@@ -40,7 +40,7 @@ fn call_of(d: Draft) -> Call
     }
     if d.call == 5 {
         return Call::RefpInit {
-            slice_type: d.first,
+            slice_type: d.lead,
             poc: d.number,
             layer_id: d.layer,
             last_intra: d.span,
@@ -48,7 +48,7 @@ fn call_of(d: Draft) -> Call
         };
     }
     Call::PocDerivation {
-        log2_sub_gop_length: d.first,
+        log2_sub_gop_length: d.lead,
         tid: d.layer,
     }
 }

@@ -1,7 +1,7 @@
 // A command of which some words were read: which word is wanted next, and each field given. Crate `progress` says how far it is, crates `naming`
 // and `fitting` take the words.
 ghost use mathlib.Core.Path.{_≡_};
-ghost use Rattle.drafts.specs.Drafts.{started, withFirst, withNumber, withLayer, withSpan, withLimit, withGiven};
+ghost use Rattle.drafts.specs.Drafts.{started, withLead, withNumber, withLayer, withSpan, withLimit, withGiven};
 
 // Which word is wanted next. A draft that a word did not fit has 16 more (`progress::failed`).
 pub const COMMAND: u8 = 0;
@@ -34,12 +34,12 @@ pub const END: u8 = 12;
 const USUAL_LIMIT: u8 = 21;
 
 // The call's byte, what is wanted next, which parts were given (the flags of a put in the low half, then 16 layer, 32 gap or last intra,
-// 64 limit), and the fields.
+// 64 limit), and the fields. `lead` is the store size, the slice type or L, `span` the gap or the last intra.
 pub struct Draft {
     pub call: u8,
     pub want: u8,
     pub given: u8,
-    pub first: u8,
+    pub lead: u8,
     pub number: u32,
     pub layer: u8,
     pub span: u32,
@@ -54,7 +54,7 @@ pub fn started(call: u8, want: u8) -> Draft
         call,
         want,
         given: 0,
-        first: 0,
+        lead: 0,
         number: 0,
         layer: 0,
         span: 0,
@@ -62,14 +62,14 @@ pub fn started(call: u8, want: u8) -> Draft
     }
 }
 
-pub fn with_first(d: Draft, n: u8, want: u8) -> Draft
-    ensures { λ r. ⌜ r ≡ withFirst d n want ⌝ }
+pub fn with_lead(d: Draft, n: u8, want: u8) -> Draft
+    ensures { λ r. ⌜ r ≡ withLead d n want ⌝ }
 {
     Draft {
         call: d.call,
         want,
         given: d.given,
-        first: n,
+        lead: n,
         number: d.number,
         layer: d.layer,
         span: d.span,
@@ -84,7 +84,7 @@ pub fn with_number(d: Draft, n: u32, want: u8) -> Draft
         call: d.call,
         want,
         given: d.given,
-        first: d.first,
+        lead: d.lead,
         number: n,
         layer: d.layer,
         span: d.span,
@@ -99,7 +99,7 @@ pub fn with_layer(d: Draft, n: u8, want: u8) -> Draft
         call: d.call,
         want,
         given: d.given,
-        first: d.first,
+        lead: d.lead,
         number: d.number,
         layer: n,
         span: d.span,
@@ -114,7 +114,7 @@ pub fn with_span(d: Draft, n: u32, want: u8) -> Draft
         call: d.call,
         want,
         given: d.given,
-        first: d.first,
+        lead: d.lead,
         number: d.number,
         layer: d.layer,
         span: n,
@@ -129,7 +129,7 @@ pub fn with_limit(d: Draft, n: u8, want: u8) -> Draft
         call: d.call,
         want,
         given: d.given,
-        first: d.first,
+        lead: d.lead,
         number: d.number,
         layer: d.layer,
         span: d.span,
@@ -144,7 +144,7 @@ pub fn with_given(d: Draft, given: u8, want: u8) -> Draft
         call: d.call,
         want,
         given,
-        first: d.first,
+        lead: d.lead,
         number: d.number,
         layer: d.layer,
         span: d.span,

@@ -8,12 +8,12 @@ use lib.ListN.{getD}
 use Rattle.tokens.specs.declared.Word.{Word}
 use Rattle.tokens.specs.Words.{isNumber, isSigned, signedValue}
 use Rattle.drafts.specs.declared.Draft.{Draft}
-use Rattle.drafts.specs.Drafts.{withFirst, withNumber, withLayer, withSpan, withLimit}
+use Rattle.drafts.specs.Drafts.{withLead, withNumber, withLayer, withSpan, withLimit}
 use Rattle.progress.specs.Progress.{failed}
 use Rattle.naming.specs.Names.{byte, word, commandWord, sliceWord, pictureWord, putPart, listPart}
 
 abbrev pub firstWord : Draft → Word → Draft
-firstWord d w = cond (isNumber w byte) (withFirst d (w .value) 2) (failed d)
+firstWord d w = cond (isNumber w byte) (withLead d (w .value) 2) (failed d)
 
 abbrev pub secondWord : Draft → Word → Draft
 secondWord d w = cond (isNumber w byte) (withLayer d (w .value) 12) (failed d)

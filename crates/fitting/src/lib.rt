@@ -13,8 +13,8 @@ use drafts::PICTURE;
 use drafts::PUT_PARTS;
 use drafts::SECOND;
 use drafts::SLICE;
-use drafts::with_first;
 use drafts::with_layer;
+use drafts::with_lead;
 use drafts::with_limit;
 use drafts::with_number;
 use drafts::with_span;
@@ -46,7 +46,7 @@ fn first_word(d: Draft, w: Word) -> Draft
     ensures { λ r. ⌜ r ≡ firstWord d w ⌝ }
 {
     if is_number(w, BYTE) {
-        return with_first(d, w.value as u8, SECOND);
+        return with_lead(d, w.value as u8, SECOND);
     }
     failed(d)
 }

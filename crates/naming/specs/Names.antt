@@ -9,7 +9,7 @@ use Rattle.phrases.specs.Phrases.{chars}
 use Rattle.tokens.specs.declared.Word.{Word}
 use Rattle.tokens.specs.Words.{codeWith, isNumber}
 use Rattle.drafts.specs.declared.Draft.{Draft}
-use Rattle.drafts.specs.Drafts.{started, withFirst, withNumber}
+use Rattle.drafts.specs.Drafts.{started, withLead, withNumber}
 use Rattle.progress.specs.Progress.{failed, marked}
 
 -- Whether a word is this one.
@@ -35,8 +35,8 @@ commandWord d w =
 -- A slice is I, P, B, or its byte.
 abbrev pub sliceWord : Draft → Word → Draft
 sliceWord d w =
-    cond (isNumber w byte) (withFirst d (w .value) 4)
-    (cond (is "I" w) (withFirst d 1 4) (cond (is "P" w) (withFirst d 2 4) (cond (is "B" w) (withFirst d 3 4) (failed d))))
+    cond (isNumber w byte) (withLead d (w .value) 4)
+    (cond (is "I" w) (withLead d 1 4) (cond (is "P" w) (withLead d 2 4) (cond (is "B" w) (withLead d 3 4) (failed d))))
 
 abbrev pub pictureWord : Draft → Word → Draft
 pictureWord d w = cond (isNumber w word) (withNumber d (w .value) 6) (cond (is "none" w) (marked d 8 6) (failed d))

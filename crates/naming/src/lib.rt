@@ -12,7 +12,7 @@ use drafts::PICTURE;
 use drafts::PUT_PARTS;
 use drafts::SLICE;
 use drafts::started;
-use drafts::with_first;
+use drafts::with_lead;
 use drafts::with_number;
 use progress::failed;
 use progress::marked;
@@ -87,16 +87,16 @@ pub fn slice_word(d: Draft, w: Word) -> Draft
     ensures { λ r. ⌜ r ≡ sliceWord d w ⌝ }
 {
     if is_number(w, BYTE) {
-        return with_first(d, w.value as u8, NUMBER);
+        return with_lead(d, w.value as u8, NUMBER);
     }
     if w.code == NAME_I {
-        return with_first(d, 1, NUMBER);
+        return with_lead(d, 1, NUMBER);
     }
     if w.code == NAME_P {
-        return with_first(d, 2, NUMBER);
+        return with_lead(d, 2, NUMBER);
     }
     if w.code == NAME_B {
-        return with_first(d, 3, NUMBER);
+        return with_lead(d, 3, NUMBER);
     }
     failed(d)
 }

@@ -49,7 +49,7 @@ quad-digits cs at =
 module _ {cs : List ℕ} {i : ℕ} where
   pub summed-call : {call : ℕ} → call < 256 → Opened cs i call → Summed cs i 1 call true
   unfolding sum8 pairsAt arePairs
-  summed-call {call} h o = record { total = rw (o .first) (omega arith); digits = rw (o .digits) }
+  summed-call {call} h o = record { total = rw (o .call-byte) (omega arith); digits = rw (o .digits) }
 
   summed-more : {m sum : ℕ} {good : Bool} (n sum′ r : ℕ) (good′ : Bool) → Summed cs i m sum good
       → sum′ % 256 ≡ sum8 (pairsAt cs (i + 2 * m) n) → good′ ≡ arePairs cs (i + 2 * m) n → r ≡ (sum + sum′) % 256 → Summed cs i (m + n) r (good && good′)

@@ -46,7 +46,7 @@ quadOf cs i =
 -- The two characters there are the digits of a call byte.
 pub record Opened (cs : List ℕ) (i call : ℕ) : Type 0 where
   pub digits : isPair cs i ≡ true
-  pub first : pairAt cs i ≡ call
+  pub call-byte : pairAt cs i ≡ call
 
 -- The m bytes from a place on have this sum, and are pairs of digits or not.
 pub record Summed (cs : List ℕ) (i m sum : ℕ) (good : Bool) : Type 0 where
@@ -60,13 +60,13 @@ PairsChecked cs at sum good r = (i m : ℕ) → at ≡ i + 2 * m → Summed cs i
 -- A line with two bytes behind the call byte.
 pub record TwoSeen (cs : List ℕ) (i : ℕ) (t : Two) : Type 0 where
   pub good : t .good ≡ isLineAt cs i 4
-  pub first : t .good ≡ true → t .first ≡ byteAt (pairsAt cs i 3) 1
-  pub second : t .good ≡ true → t .second ≡ byteAt (pairsAt cs i 3) 2
+  pub byte1 : t .good ≡ true → t .byte1 ≡ byteAt (pairsAt cs i 3) 1
+  pub byte2 : t .good ≡ true → t .byte2 ≡ byteAt (pairsAt cs i 3) 2
 
 -- The eleven bytes that a put and a list call have in common.
 pub record FieldsSeen (cs : List ℕ) (i : ℕ) (f : Fields) : Type 0 where
   pub summed : Summed cs i 11 (f .sum) (f .good)
-  pub first : f .first ≡ byteAt (pairsAt cs i 11) 1
+  pub lead : f .lead ≡ byteAt (pairsAt cs i 11) 1
   pub poc : f .poc ≡ wordAt (pairsAt cs i 11) 2 3 4 5
-  pub second : f .second ≡ byteAt (pairsAt cs i 11) 6
-  pub word : f .word ≡ wordAt (pairsAt cs i 11) 7 8 9 10
+  pub layer : f .layer ≡ byteAt (pairsAt cs i 11) 6
+  pub span : f .span ≡ wordAt (pairsAt cs i 11) 7 8 9 10

@@ -22,17 +22,18 @@ pub struct Quad {
 
 // A line with two bytes behind the call byte, and whether it is one.
 pub struct Two {
-    pub first: u8,
-    pub second: u8,
+    pub byte1: u8,
+    pub byte2: u8,
     pub good: bool,
 }
 
-// The fields that a put and a list call have in common, the sum so far, and whether all are digits.
+// The fields that a put and a list call have in common, the sum so far, and whether all are digits. `lead` is a put's flags or a list call's slice
+// type, `span` its gap or last intra.
 pub struct Fields {
-    pub first: u8,
+    pub lead: u8,
     pub poc: u32,
-    pub second: u8,
-    pub word: u32,
+    pub layer: u8,
+    pub span: u32,
     pub sum: u8,
     pub good: bool,
 }

@@ -46,18 +46,18 @@ pub fn two_at(tables: &[u16; TABLE_SIZE], buffer: &[u8], at: usize, call: u8) ->
 {
     if buffer.len() - at < 9 {
         return Two {
-            first: 0,
-            second: 0,
+            byte1: 0,
+            byte2: 0,
             good: false,
         };
     }
-    let first = pair_at(tables, buffer, at + 2);
-    let second = pair_at(tables, buffer, at + 4);
-    let sum = plus(plus(call, first.byte), second.byte);
+    let byte1 = pair_at(tables, buffer, at + 2);
+    let byte2 = pair_at(tables, buffer, at + 4);
+    let sum = plus(plus(call, byte1.byte), byte2.byte);
     Two {
-        first: first.byte,
-        second: second.byte,
-        good: check_at(tables, buffer, at + 6, sum, first.good & second.good),
+        byte1: byte1.byte,
+        byte2: byte2.byte,
+        good: check_at(tables, buffer, at + 6, sum, byte1.good & byte2.good),
     }
 }
 
@@ -65,19 +65,19 @@ pub fn fields_at(tables: &[u16; TABLE_SIZE], buffer: &[u8], at: usize, call: u8)
     requires { ⌜ (now tables ≡ digitTables) × Opened (now buffer) at call × (at + 22 ≤ length (now buffer)) ⌝ }
     ensures { λ r. ⌜ FieldsSeen (now (buffer .entry)) at r ⌝ }
 {
-    let first = pair_at(tables, buffer, at + 2);
+    let lead = pair_at(tables, buffer, at + 2);
     let poc = quad_at(tables, buffer, at + 4);
-    let second = pair_at(tables, buffer, at + 12);
-    let word = quad_at(tables, buffer, at + 14);
+    let layer = pair_at(tables, buffer, at + 12);
+    let span = quad_at(tables, buffer, at + 14);
     Fields {
-        first: first.byte,
+        lead: lead.byte,
         poc: poc.value,
-        second: second.byte,
-        word: word.value,
+        layer: layer.byte,
+        span: span.value,
         sum: plus(
-            plus(plus(plus(call, first.byte), poc.sum), second.byte),
-            word.sum,
+            plus(plus(plus(call, lead.byte), poc.sum), layer.byte),
+            span.sum,
         ),
-        good: first.good & poc.good & second.good & word.good,
+        good: lead.good & poc.good & layer.good & span.good,
     }
 }

@@ -10,7 +10,7 @@ abbrev pub begun : Draft
 begun = started 0 0
 
 abbrev pub withWant : Draft → ℕ → Draft
-withWant d want = draft (d .call) want (d .given) (d .first) (d .number) (d .layer) (d .span) (d .limit)
+withWant d want = draft (d .call) want (d .given) (d .lead) (d .number) (d .layer) (d .span) (d .limit)
 
 -- A word that does not fit: the first one counts.
 abbrev pub failed : Draft → Draft

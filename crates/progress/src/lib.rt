@@ -29,7 +29,7 @@ pub fn failed(d: Draft) -> Draft
             call: d.call,
             want: d.want + FAILED,
             given: d.given,
-            first: d.first,
+            lead: d.lead,
             number: d.number,
             layer: d.layer,
             span: d.span,

@@ -28,11 +28,11 @@ module _ (cs : List ℕ) (i : ℕ) where
   kind-at : (call n : ℕ) → ((b : List ℕ) → byteAt b 0 ≡ call → (length b ≡ n → ⊥) → callIn b ≡ none) → Opened cs i call → (m : ℕ) → (m ≡ n → ⊥) → callIn (pairsAt cs i m) ≡ none
   unfolding pairsAt callIn
   kind-at call n h o zero ne = refl
-  kind-at call n h o (suc m) ne = h (pairsAt cs i (suc m)) (o .first) (λ (e : length (pairsAt cs i (suc m)) ≡ n). ne (sym (pairs-length cs i (suc m)) ∙ e))
+  kind-at call n h o (suc m) ne = h (pairsAt cs i (suc m)) (o .call-byte) (λ (e : length (pairsAt cs i (suc m)) ≡ n). ne (sym (pairs-length cs i (suc m)) ∙ e))
 
   first-byte : {call : ℕ} (n : ℕ) → Opened cs i call → byteAt (pairsAt cs i (suc n)) 0 ≡ call
   unfolding pairsAt
-  first-byte n o = o .first
+  first-byte n o = o .call-byte
 
   pub get-at : Opened cs i 2 → callAt cs i ≡ cond (isLineAt cs i 2) (LineAt.Good GetEmptyPic (i + 5)) LineAt.Other
   unfolding callIn
@@ -101,7 +101,7 @@ module _ (cs : List ℕ) (i : ℕ) where
 
 -- The characters that open a call line: 0, and then 1 to 6.
 pub opened : (cs : List ℕ) (i c call : ℕ) → isDigit c ≡ true → charValue c % 16 ≡ call → getD cs i 0 ≡ 48 → getD cs (i + 1) 0 ≡ c → Opened cs i call
-opened cs i c call d v e f = record { digits = rw (e, f, d); first = rw (e, f) (omega arith) }
+opened cs i c call d v e f = record { digits = rw (e, f, d); call-byte = rw (e, f) (omega arith) }
 
 other-byte : (b : List ℕ) → ((k : ℕ) → 1 ≤ k → k ≤ 6 → byteAt b 0 ≡ k → ⊥) → callIn b ≡ none
 unfolding callIn

@@ -24,8 +24,8 @@ fn init_at(tables: &[u16; TABLE_SIZE], buffer: &[u8], at: usize) -> LineAt
     if t.good {
         return LineAt::Good(
             Call::Init {
-                max_pb_size: t.first,
-                max_num_ref_pics: t.second,
+                max_pb_size: t.byte1,
+                max_num_ref_pics: t.byte2,
             },
             at + 9,
         );
@@ -41,8 +41,8 @@ fn derive_at(tables: &[u16; TABLE_SIZE], buffer: &[u8], at: usize) -> LineAt
     if t.good {
         return LineAt::Good(
             Call::PocDerivation {
-                log2_sub_gop_length: t.first,
-                tid: t.second,
+                log2_sub_gop_length: t.byte1,
+                tid: t.byte2,
             },
             at + 9,
         );
@@ -78,13 +78,13 @@ fn put_at(tables: &[u16; TABLE_SIZE], buffer: &[u8], at: usize) -> LineAt
         return LineAt::Other;
     }
     let f = fields_at(tables, buffer, at, 3);
-    if check_at(tables, buffer, at + 22, f.sum, f.good) & !(15 < f.first) {
+    if check_at(tables, buffer, at + 22, f.sum, f.good) & !(15 < f.lead) {
         return LineAt::Good(
             Call::PutPic {
-                flags: f.first,
+                flags: f.lead,
                 poc: f.poc,
-                temporal_id: f.second,
-                ref_pic_gap_length: f.word,
+                temporal_id: f.layer,
+                ref_pic_gap_length: f.span,
             },
             at + 25,
         );
@@ -105,10 +105,10 @@ fn lists_at(tables: &[u16; TABLE_SIZE], buffer: &[u8], at: usize) -> LineAt
     if check_at(tables, buffer, at + 24, sum, f.good & limit.good) {
         return LineAt::Good(
             Call::RefpInit {
-                slice_type: f.first,
+                slice_type: f.lead,
                 poc: f.poc,
-                layer_id: f.second,
-                last_intra: f.word,
+                layer_id: f.layer,
+                last_intra: f.span,
                 max_num_ref_pics: limit.byte,
             },
             at + 27,

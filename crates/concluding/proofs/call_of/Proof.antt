@@ -8,7 +8,7 @@ use Rattle.concluding.proofs.call_of.Statement.{statement}
 use Rattle.concluding.proofs.call_of.Tie as tie
 
 -- the fields fit their bytes
-bounds : (c : tie.Start) → (c .args .d .first < 256) × (c .args .d .number < 2 ^ 32) × (c .args .d .layer < 256) × (c .args .d .span < 2 ^ 32) × (c .args .d .limit < 256)
+bounds : (c : tie.Start) → (c .args .d .lead < 256) × (c .args .d .number < 2 ^ 32) × (c .args .d .layer < 256) × (c .args .d .span < 2 ^ 32) × (c .args .d .limit < 256)
 bounds c = (omega arith, omega arith, omega arith, omega arith, omega arith)
 
 returns : tie.Need-returns

@@ -10,16 +10,16 @@ use Rattle.fitting.proofs.first_word.Tie as tie
 is-number-requires : tie.Need-is-number-requires
 is-number-requires c κs = search needs
 
-cast-with-first : tie.Need-cast-with-first
-cast-with-first c =
+cast-with-lead : tie.Need-cast-with-lead
+cast-with-lead c =
     let test = c .before in
     let asked = test .before in
     let start = asked .before in
     let most = number-most (start .args .w) 255 (sym (asked .is-number .ensures) ∙ test .if1 .taken) in
     omega arith
 
-with-first-requires : tie.Need-with-first-requires
-with-first-requires c κs = search needs
+with-lead-requires : tie.Need-with-lead-requires
+with-lead-requires c κs = search needs
 
 returns : tie.Need-returns
 returns c =
@@ -27,7 +27,7 @@ returns c =
     let test1 = done .before .before in
     let asked = test1 .before in
     let start = asked .before in
-    rw (sym (asked .is-number .ensures) ∙ test1 .if1 .taken) (done .with-first .ensures)
+    rw (sym (asked .is-number .ensures) ∙ test1 .if1 .taken) (done .with-lead .ensures)
 
 failed-requires : tie.Need-failed-requires
 failed-requires c κs = search needs
@@ -45,8 +45,8 @@ first-word-spec =
     tie.close
     (tie.spec
     is-number-requires
-    cast-with-first
-    with-first-requires
+    cast-with-lead
+    with-lead-requires
     returns
     failed-requires
     returns-2)

@@ -11,16 +11,16 @@ use Rattle.naming.proofs.slice_word.Tie as tie
 is-number-requires : tie.Need-is-number-requires
 is-number-requires c κs = search needs
 
-cast-with-first : tie.Need-cast-with-first
-cast-with-first c =
+cast-with-lead : tie.Need-cast-with-lead
+cast-with-lead c =
     let test = c .before in
     let asked = test .before in
     let start = asked .before in
     let most = number-most (start .args .w) 255 (sym (asked .is-number .ensures) ∙ test .if1 .taken) in
     omega arith
 
-with-first-requires : tie.Need-with-first-requires
-with-first-requires c κs = search needs
+with-lead-requires : tie.Need-with-lead-requires
+with-lead-requires c κs = search needs
 
 returns : tie.Need-returns
 returns c =
@@ -28,10 +28,10 @@ returns c =
     let test1 = done .before .before in
     let asked = test1 .before in
     let start = asked .before in
-    rw (sym (asked .is-number .ensures) ∙ test1 .if1 .taken) (done .with-first .ensures)
+    rw (sym (asked .is-number .ensures) ∙ test1 .if1 .taken) (done .with-lead .ensures)
 
-with-first-requires-2 : tie.Need-with-first-requires-2
-with-first-requires-2 c κs = search needs
+with-lead-requires-2 : tie.Need-with-lead-requires-2
+with-lead-requires-2 c κs = search needs
 
 returns-2 : tie.Need-returns-2
 returns-2 c =
@@ -40,10 +40,10 @@ returns-2 c =
     let test1 = test2 .before .before in
     let asked = test1 .before in
     let start = asked .before in
-    rw (sym (asked .is-number .ensures) ∙ test1 .if1 .left, eq-eqb (start .args .w .code) 329 (test2 .if2 .taken)) (done .with-first2 .ensures)
+    rw (sym (asked .is-number .ensures) ∙ test1 .if1 .left, eq-eqb (start .args .w .code) 329 (test2 .if2 .taken)) (done .with-lead2 .ensures)
 
-with-first-requires-3 : tie.Need-with-first-requires-3
-with-first-requires-3 c κs = search needs
+with-lead-requires-3 : tie.Need-with-lead-requires-3
+with-lead-requires-3 c κs = search needs
 
 returns-3 : tie.Need-returns-3
 returns-3 c =
@@ -53,10 +53,10 @@ returns-3 c =
     let test1 = test2 .before .before in
     let asked = test1 .before in
     let start = asked .before in
-    rw (sym (asked .is-number .ensures) ∙ test1 .if1 .left, ne-eqb (start .args .w .code) 329 (test2 .if2 .left), eq-eqb (start .args .w .code) 336 (test3 .if3 .taken)) (done .with-first3 .ensures)
+    rw (sym (asked .is-number .ensures) ∙ test1 .if1 .left, ne-eqb (start .args .w .code) 329 (test2 .if2 .left), eq-eqb (start .args .w .code) 336 (test3 .if3 .taken)) (done .with-lead3 .ensures)
 
-with-first-requires-4 : tie.Need-with-first-requires-4
-with-first-requires-4 c κs = search needs
+with-lead-requires-4 : tie.Need-with-lead-requires-4
+with-lead-requires-4 c κs = search needs
 
 returns-4 : tie.Need-returns-4
 returns-4 c =
@@ -67,7 +67,7 @@ returns-4 c =
     let test1 = test2 .before .before in
     let asked = test1 .before in
     let start = asked .before in
-    rw (sym (asked .is-number .ensures) ∙ test1 .if1 .left, ne-eqb (start .args .w .code) 329 (test2 .if2 .left), ne-eqb (start .args .w .code) 336 (test3 .if3 .left), eq-eqb (start .args .w .code) 322 (test4 .if4 .taken)) (done .with-first4 .ensures)
+    rw (sym (asked .is-number .ensures) ∙ test1 .if1 .left, ne-eqb (start .args .w .code) 329 (test2 .if2 .left), ne-eqb (start .args .w .code) 336 (test3 .if3 .left), eq-eqb (start .args .w .code) 322 (test4 .if4 .taken)) (done .with-lead4 .ensures)
 
 failed-requires : tie.Need-failed-requires
 failed-requires c κs = search needs
@@ -88,14 +88,14 @@ slice-word-spec =
     tie.close
     (tie.spec
     is-number-requires
-    cast-with-first
-    with-first-requires
+    cast-with-lead
+    with-lead-requires
     returns
-    with-first-requires-2
+    with-lead-requires-2
     returns-2
-    with-first-requires-3
+    with-lead-requires-3
     returns-3
-    with-first-requires-4
+    with-lead-requires-4
     returns-4
     failed-requires
     returns-5)

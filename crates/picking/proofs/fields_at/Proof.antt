@@ -65,10 +65,10 @@ returns c =
     let eleven = summed-quad (at + 14) (summed .plus4 .result) refl seven (summed .plus4 .ensures ∙ ap (λ (q : Quad). (summed .before .plus3 .result + q .sum) % 256) word) in
     record {
       summed = rw (first, poc, second, word) eleven;
-      first = ap (λ (p : Pair). p .byte) first ∙ sym (pair-entry cs at 11 1 (omega arith));
+      lead = ap (λ (p : Pair). p .byte) first ∙ sym (pair-entry cs at 11 1 (omega arith));
       poc = ap (λ (q : Quad). q .value) poc ∙ quad-value cs at 11 2 (at + 4) (omega arith) refl;
-      second = ap (λ (p : Pair). p .byte) second ∙ sym (pair-entry cs at 11 6 (omega arith));
-      word = ap (λ (q : Quad). q .value) word ∙ quad-value cs at 11 7 (at + 14) (omega arith) refl;
+      layer = ap (λ (p : Pair). p .byte) second ∙ sym (pair-entry cs at 11 6 (omega arith));
+      span = ap (λ (q : Quad). q .value) word ∙ quad-value cs at 11 7 (at + 14) (omega arith) refl;
     }
 
 pub fields-at-spec : {M : Type 1} → statement M

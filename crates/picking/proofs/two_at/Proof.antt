@@ -18,8 +18,8 @@ returns c =
     let a = c .before .before .args in
     record {
       good = sym (cut (a .buffer .now) (a .at) 4 (omega arith));
-      first = λ e. absurd (let z : _≡_ {A = ℕ} 0 1 = cc e in omega arith);
-      second = λ e. absurd (let z : _≡_ {A = ℕ} 0 1 = cc e in omega arith);
+      byte1 = λ e. absurd (let z : _≡_ {A = ℕ} 0 1 = cc e in omega arith);
+      byte2 = λ e. absurd (let z : _≡_ {A = ℕ} 0 1 = cc e in omega arith);
     }
 
 add-pair-at : tie.Need-add-pair-at
@@ -60,8 +60,8 @@ returns-2 c =
     let three = summed-pair (at + 4) (summed .plus2 .result) refl two (summed .plus2 .ensures ∙ ap (λ (p : Pair). (summed .before .plus .result + p .byte) % 256) second) in
     record {
       good = c .check-at .ensures at 3 refl (rw (first, second) three);
-      first = λ e. ap (λ (p : Pair). p .byte) first ∙ sym (pair-entry cs at 3 1 (omega arith));
-      second = λ e. ap (λ (p : Pair). p .byte) second ∙ sym (pair-entry cs at 3 2 (omega arith));
+      byte1 = λ e. ap (λ (p : Pair). p .byte) first ∙ sym (pair-entry cs at 3 1 (omega arith));
+      byte2 = λ e. ap (λ (p : Pair). p .byte) second ∙ sym (pair-entry cs at 3 2 (omega arith));
     }
 
 pub two-at-spec : {M : Type 1} → statement M

@@ -61,7 +61,7 @@ returns-2 c =
     let at = s .args .at in
     let f = read .fields-at .ensures in
     let limit = summed .before .pair-at .ensures in
-    sym (lists-at cs at (s .pre .1) ∙ rw (sym (tested (c .before)) ∙ c .if2 .taken, ← f .first, ← f .poc, ← f .second, ← f .word, ← ap (λ (p : Pair). p .byte) limit))
+    sym (lists-at cs at (s .pre .1) ∙ rw (sym (tested (c .before)) ∙ c .if2 .taken, ← f .lead, ← f .poc, ← f .layer, ← f .span, ← ap (λ (p : Pair). p .byte) limit))
 
 returns-3 : tie.Need-returns-3
 returns-3 c =

@@ -20,12 +20,12 @@ tested : (c : tie.After-struct-known) →
     let f = c .before .before in
     let s = f .before .before .before in
     let cs = s .args .buffer .now in
-    (c .before .check-at .result && not (ltb 15 (f .fields-at .result .first))) ≡ (isLineAt cs (s .args .at) 12 && not (badFlags (byteAt (pairsAt cs (s .args .at) 11) 1)))
+    (c .before .check-at .result && not (ltb 15 (f .fields-at .result .lead))) ≡ (isLineAt cs (s .args .at) 12 && not (badFlags (byteAt (pairsAt cs (s .args .at) 11) 1)))
 tested c =
     let f = c .before .before in
     let s = f .before .before .before in
     let line = c .before .check-at .ensures (s .args .at) 11 refl (f .fields-at .ensures .summed) in
-    rw (line, f .fields-at .ensures .first)
+    rw (line, f .fields-at .ensures .lead)
 
 returns : tie.Need-returns
 returns c =
@@ -48,7 +48,7 @@ returns-2 : tie.Need-returns-2
 returns-2 c =
     let s = c .before .before .before .before .before .before in
     let f = c .before .before .before .fields-at .ensures in
-    sym (put-at (s .args .buffer .now) (s .args .at) (s .pre .1) ∙ rw (sym (tested (c .before)) ∙ c .if2 .taken, ← f .first, ← f .poc, ← f .second, ← f .word))
+    sym (put-at (s .args .buffer .now) (s .args .at) (s .pre .1) ∙ rw (sym (tested (c .before)) ∙ c .if2 .taken, ← f .lead, ← f .poc, ← f .layer, ← f .span))
 
 returns-3 : tie.Need-returns-3
 returns-3 c =
