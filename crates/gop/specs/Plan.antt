@@ -9,7 +9,7 @@ use Rattle.def.specs.Binary.{floorLog2}
 use Rattle.def.specs.Constants.{sliceTypeOf}
 use Rattle.def.specs.declared.{EvcPoc.EvcPoc, Refusal.Refusal, SliceType.SliceType}
 use Rattle.tbl.specs.DepthRows.{isGopSize, depthRule}
-use Rattle.poc.specs.declared.{PocAnswer.PocAnswer, Derivation.Derivation}
+use Rattle.poc.specs.declared.{PocAnswer.PocAnswer}
 use Rattle.poc.specs.PictureNumber.{maxPoc, offsetFrom, recordOf, derive}
 use Rattle.gop.specs.declared.{PlanAnswer.PlanAnswer, Planning.Planning}
 

@@ -24,7 +24,7 @@ use Rattle.refp.specs.Lists.{lists}
 use Rattle.refp.specs.Claims.{ListsReason}
 use Rattle.refp.specs.Claims as lists-claims
 use Rattle.refp.proofs.ListLaws.{lists-why, lists-refused-unchanged, lists-stay-whole, only-counts}
-use Rattle.picman.specs.{Init.init, Get.get, Put.put, Out.out, Put.remarked}
+use Rattle.picman.specs.{Put.put, Put.remarked}
 use Rattle.picman.specs.Claims.{InitTurnedDown, GetTurnedDown, PutTurnedDown, OutTurnedDown}
 use Rattle.picman.specs.Claims as claims
 use Rattle.picman.proofs.InitLaws.{init-refused, init-why, init-keeps-whole, init-keeps-slots}

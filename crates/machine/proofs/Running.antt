@@ -24,7 +24,7 @@ use Rattle.line.specs.declared.Call.the-variants.{Init, GetEmptyPic, PutPic, Ou
 use Rattle.def.specs.declared.Answer.the-variants.{Refused}
 use Rattle.def.specs.declared.Refusal.the-variants.{StateNotWhole}
 use Rattle.line.specs.Answers.{replyOf}
-use Rattle.machine.specs.declared.{Machine.Machine, Stepped.Stepped, Scalars.Scalars, Made.Made}
+use Rattle.machine.specs.declared.{Machine.Machine, Scalars.Scalars, Made.Made}
 use Rattle.machine.specs.Step.{newRefP, newLists, newMachine, putCallOf, refpCallOf, stepped, onState, onLists, onRecord, step, stepLine}
 use Rattle.machine.specs.Running.{machineIn, newScalars, readsState, callByte, isReady, Runs, CallRoom, Makes, madeOf, derivedOf}
 use Rattle.machine.specs.Claims.{Sound}

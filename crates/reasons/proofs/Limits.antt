@@ -8,7 +8,6 @@ use lib.Dec.{ltb}
 use lib.ListN.{length, take, length-append}
 use lib.Seq.{take-all, take-append-le, length-take-le}
 use borrow.Author.Tests.{ltb-true, ltb-false, lt-ltb, le-ltb, le-leb, lt-leb}
-use Rattle.def.specs.declared.{Slot.Slot, RefpCall.RefpCall}
 use Rattle.ordering.specs.Order.{Key, down}
 use Rattle.passes.specs.Passes.{Ask, Progress, walked, takesKey, stepOn, passOn, pass}
 use Rattle.ruling.specs.Rules.{askOf}

@@ -13,7 +13,7 @@ use Rattle.seq.proofs.Members.{mem-at, select-mem, select-append}
 use Rattle.seq.proofs.Tests.{and-left}
 use Rattle.seq.proofs.Orders.{mem-reverse}
 use Rattle.def.specs.State.{listPlaces, noSlot, noRefP, isPresent, isMarked, bufferOf}
-use Rattle.def.specs.declared.{Slot.Slot, EvcPm.EvcPm, EvcRefP.EvcRefP, RefpCall.RefpCall, RefpResult.RefpResult}
+use Rattle.def.specs.declared.{Slot.Slot, EvcPm.EvcPm, EvcRefP.EvcRefP, RefpCall.RefpCall}
 use Rattle.whole.specs.Whole.{whole, leases}
 use Rattle.whole.proofs.Laws.{whole-rules}
 use Rattle.ordering.specs.Order.{Key, keyOf, down, MarkedKey}
@@ -26,7 +26,7 @@ use Rattle.choosing.proofs.Accepted.{forward-taken}
 use Rattle.refp.specs.Lists.{entryOf, lists}
 use Rattle.refp.specs.Claims.{Built}
 use Rattle.refp.proofs.ListLaws.{lists-built}
-use Rattle.reasons.specs.declared.{Reason.Reason, WhyAnswer.WhyAnswer}
+use Rattle.reasons.specs.declared.{Reason.Reason}
 use Rattle.reasons.specs.Reasons.{keyAt}
 use Rattle.reasons.specs.Claims.{AskedOf, goesUp, comeTo, Condition, InForward, TakenExactly, BufferTells}
 use Rattle.reasons.proofs.Refusing.{is-whole}

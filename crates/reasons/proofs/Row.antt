@@ -10,7 +10,7 @@ use lib.ListN.{length, getD}
 use borrow.Author.Tests.{leb-true, leb-false, ltb-true, ltb-false, lt-ltb, eqb-true, eqb-false}
 use Rattle.seq.proofs.Tests.{and-left, and-right}
 use Rattle.def.specs.State.{highestPoc, noSlot, isPresent, isMarked}
-use Rattle.def.specs.declared.{Slot.Slot, EvcPm.EvcPm, EvcRefP.EvcRefP, RefpCall.RefpCall, Refusal.Refusal}
+use Rattle.def.specs.declared.{Slot.Slot, RefpCall.RefpCall, Refusal.Refusal}
 use Rattle.whole.specs.Whole.{whole}
 use Rattle.ordering.specs.Order.{Key}
 use Rattle.passes.specs.Passes.{Ask, sideOf, takesKey}

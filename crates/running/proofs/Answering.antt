@@ -10,7 +10,7 @@ use Rattle.keys.specs.declared.Rest.{Rest}
 use Rattle.line.specs.declared.{Call.Call, Line.Line, Reply.Reply}
 use Rattle.line.specs.Answers.{badLineReply}
 use Rattle.registers.specs.Registers.{restOf, pocOf}
-use Rattle.machine.specs.declared.{Machine.Machine, Scalars.Scalars, Made.Made}
+use Rattle.machine.specs.declared.{Scalars.Scalars, Made.Made}
 use Rattle.machine.specs.Step.{step, stepLine}
 use Rattle.machine.specs.Running.{machineIn, Makes}
 use Rattle.machine.specs.Claims.{TurnedDown}

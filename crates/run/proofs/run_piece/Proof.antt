@@ -12,8 +12,8 @@ use borrow.Author.Needs.{needs}
 use borrow.Author.Tests.{ltb-true, ltb-false}
 use Rattle.hex.specs.Hex.{digitTables}
 use Rattle.line.specs.Lines.{lineEnd}
-use Rattle.line.specs.declared.{Line.Line, Reply.Reply}
-use Rattle.machine.specs.declared.{Machine.Machine, Stepped.Stepped, Scalars.Scalars, Made.Made}
+use Rattle.line.specs.declared.{Line.Line}
+use Rattle.machine.specs.declared.{Scalars.Scalars, Made.Made}
 use Rattle.machine.specs.Step.{stepped, stepLine}
 use Rattle.machine.specs.Running.{machineIn, Runs, Makes}
 use Rattle.machine.proofs.Running.{runs-on}

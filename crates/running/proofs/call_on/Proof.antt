@@ -1,6 +1,6 @@
 -- `running::call_on` meets its contract: the scalars are read, the call made, and the scalars after it written unless it is turned down.
 -- Assumes nothing.
-use mathlib.Core.Path.{_≡_, sym, _∙_}
+use mathlib.Core.Path.{sym, _∙_}
 use Rattle.def.proofs.Refusals.{in-use, not-in-use}
 use Rattle.running.proofs.Answering.{call-refused, call-made}
 use borrow.Author.Needs.{needs}
