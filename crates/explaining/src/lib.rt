@@ -1,4 +1,4 @@
-// Why a picture is or is not in the forward list of a slice, by value, for crate `questions`: the state is taken apart, tested and only read. Any
+// Why a picture is or is not in the forward list of a slice, by value, for crate `image_why`: the state is taken apart, tested and only read. Any
 // state may come: one that is not whole is turned down.
 use def::EvcPm;
 use def::RefpCall;

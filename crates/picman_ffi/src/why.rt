@@ -1,4 +1,4 @@
-// Why a picture is or is not in the forward list of a slice, for C and Rust: crate `questions` under the library's names.
+// Why a picture is or is not in the forward list of a slice, for C and Rust: crates `image_why` and `machine_why` under the library's names.
 use image_why::why_of_image;
 use machine_why::why_of_slices;
 ghost use mathlib.Core.Path.{_≡_};
