@@ -1,5 +1,5 @@
-// The calls on the running machine, each with its answer as a reply: keys and rows are lent and changed in place, the scalars go by value. Each works on a
-// state known to be whole.
+// The calls on the running machine, each with its answer as a reply: keys and rows are lent and changed in place, the scalars go
+// by value. Each works on a state known to be whole.
 use def::EvcPoc;
 use def::PutCall;
 use def::RefpCall;
@@ -54,7 +54,11 @@ pub fn init_call(
     max_num_ref_pics: u8,
 ) -> Made
     requires { ⌜ Runs (now keys) (now rows) s ⌝ }
-    ensures { λ r. let m = machineIn (now (keys .entry)) (now (rows .entry)) s in ⌜ Makes r s (now (keys .entry)) (now (rows .entry)) (now (keys .entry)) (now (rows .entry)) (onState 1 m (init (m .pm) «max_pb_size» «max_num_ref_pics»)) ⌝ }
+    ensures { λ r.
+        let keys-in = now (keys .entry) in
+        let rows-in = now (rows .entry) in
+        let m = machineIn keys-in rows-in s in
+        ⌜ Makes r s keys-in rows-in keys-in rows-in (onState 1 m (init (m .pm) «max_pb_size» «max_num_ref_pics»)) ⌝ }
 {
     let rest = s.rest;
     let poc = s.poc;
@@ -67,7 +71,11 @@ pub fn init_call(
 
 pub fn get_call(keys: &mut [u64], rows: &mut [u32], s: Scalars) -> Made
     requires { ⌜ Runs (now keys) (now rows) s ⌝ }
-    ensures { λ r. let m = machineIn (now (keys .entry)) (now (rows .entry)) s in ⌜ Makes r s (now (keys .entry)) (now (rows .entry)) (now (keys .exit)) (now (rows .exit)) (onState 2 m (get (m .pm))) ⌝ }
+    ensures { λ r.
+        let keys-in = now (keys .entry) in
+        let rows-in = now (rows .entry) in
+        let m = machineIn keys-in rows-in s in
+        ⌜ Makes r s keys-in rows-in (now (keys .exit)) (now (rows .exit)) (onState 2 m (get (m .pm))) ⌝ }
 {
     let rest = s.rest;
     let poc = s.poc;
@@ -76,7 +84,11 @@ pub fn get_call(keys: &mut [u64], rows: &mut [u32], s: Scalars) -> Made
 
 pub fn put_call(keys: &mut [u64], rows: &mut [u32], s: Scalars, call: PutCall) -> Made
     requires { ⌜ Runs (now keys) (now rows) s ⌝ }
-    ensures { λ r. let m = machineIn (now (keys .entry)) (now (rows .entry)) s in ⌜ Makes r s (now (keys .entry)) (now (rows .entry)) (now (keys .exit)) (now (rows .exit)) (onState 3 m (put (m .pm) (m .refp) call)) ⌝ }
+    ensures { λ r.
+        let keys-in = now (keys .entry) in
+        let rows-in = now (rows .entry) in
+        let m = machineIn keys-in rows-in s in
+        ⌜ Makes r s keys-in rows-in (now (keys .exit)) (now (rows .exit)) (onState 3 m (put (m .pm) (m .refp) call)) ⌝ }
 {
     let rest = s.rest;
     let poc = s.poc;
@@ -90,7 +102,11 @@ pub fn put_call(keys: &mut [u64], rows: &mut [u32], s: Scalars, call: PutCall) -
 
 pub fn out_call(keys: &mut [u64], rows: &[u32], s: Scalars) -> Made
     requires { ⌜ Runs (now keys) (now rows) s ⌝ }
-    ensures { λ r. let m = machineIn (now (keys .entry)) (now (rows .entry)) s in ⌜ Makes r s (now (keys .entry)) (now (rows .entry)) (now (keys .exit)) (now (rows .entry)) (onState 4 m (out (m .pm))) ⌝ }
+    ensures { λ r.
+        let keys-in = now (keys .entry) in
+        let rows-in = now (rows .entry) in
+        let m = machineIn keys-in rows-in s in
+        ⌜ Makes r s keys-in rows-in (now (keys .exit)) rows-in (onState 4 m (out (m .pm))) ⌝ }
 {
     let rest = s.rest;
     let poc = s.poc;
@@ -99,7 +115,11 @@ pub fn out_call(keys: &mut [u64], rows: &[u32], s: Scalars) -> Made
 
 pub fn refp_call(keys: &[u64], rows: &mut [u32], s: Scalars, call: RefpCall) -> Made
     requires { ⌜ Runs (now keys) (now rows) s ⌝ }
-    ensures { λ r. let m = machineIn (now (keys .entry)) (now (rows .entry)) s in ⌜ Makes r s (now (keys .entry)) (now (rows .entry)) (now (keys .entry)) (now (rows .exit)) (onLists 5 m (lists (m .pm) (m .refp) call)) ⌝ }
+    ensures { λ r.
+        let keys-in = now (keys .entry) in
+        let rows-in = now (rows .entry) in
+        let m = machineIn keys-in rows-in s in
+        ⌜ Makes r s keys-in rows-in keys-in (now (rows .exit)) (onLists 5 m (lists (m .pm) (m .refp) call)) ⌝ }
 {
     let rest = s.rest;
     let poc = s.poc;

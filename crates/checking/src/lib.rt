@@ -69,7 +69,11 @@ fn is_ready(keys: &[u64], s: Scalars, call: Call) -> bool
 // A call on any bits: one that reads the state tests first whether it is whole.
 pub fn checked_call(keys: &mut [u64], rows: &mut [u32], s: Scalars, call: Call) -> Made
     requires { ⌜ Sized (now keys) (now rows) ⌝ }
-    ensures { λ r. ⌜ Makes r s (now (keys .entry)) (now (rows .entry)) (now (keys .exit)) (now (rows .exit)) (step (machineIn (now (keys .entry)) (now (rows .entry)) s) call) ⌝ }
+    ensures { λ r.
+        let keys-in = now (keys .entry) in
+        let rows-in = now (rows .entry) in
+        let m = machineIn keys-in rows-in s in
+        ⌜ Makes r s keys-in rows-in (now (keys .exit)) (now (rows .exit)) (step m call) ⌝ }
 {
     if is_ready(keys, s, call) {
         return make_call(keys, rows, s, call);

@@ -40,8 +40,14 @@ fn slices_answer(keys: &[u64], registers: &[u32], call: RefpCall, slot: u8) -> W
 
 // A list request, of slices of the right sizes.
 fn ask_slices(keys: &[u64], registers: &[u32], call: RefpCall, slot: u8, reason: &mut [u8]) -> u8
-    requires { ⌜ (length (now keys) ≡ slots) × (length (now registers) ≡ registersLength) × (length (now reason) ≡ reasonLength) ⌝ }
-    ensures { λ r. ⌜ ((rows : List ℕ) → whyLeft r (now (reason .exit)) ≡ shownWhy (why (stands (now (keys .entry)) rows (restOf (now (registers .entry)))) call slot) (now (reason .entry))) ⌝ }
+    requires { ⌜ (length (now keys) ≡ slots)
+        × (length (now registers) ≡ registersLength)
+        × (length (now reason) ≡ reasonLength) ⌝ }
+    ensures { λ r.
+        let keys-in = now (keys .entry) in
+        let rest = restOf (now (registers .entry)) in
+        ⌜ ((rows : List ℕ) →
+        whyLeft r (now (reason .exit)) ≡ shownWhy (why (stands keys-in rows rest) call slot) (now (reason .entry))) ⌝ }
 {
     show_why(reason, slices_answer(keys, registers, call, slot))
 }
@@ -55,7 +61,9 @@ pub fn why_of_slices(
     slot: u8,
     reason: &mut [u8],
 ) -> u8
-    ensures { λ r. ⌜ whyLeft r (now (reason .exit)) ≡ whyOfSlices (slices (now (keys .entry)) (now (rows .entry)) (now (registers .entry))) (now (call .entry)) slot (now (reason .entry)) ⌝ }
+    ensures { λ r.
+        let machine = slices (now (keys .entry)) (now (rows .entry)) (now (registers .entry)) in
+        ⌜ whyLeft r (now (reason .exit)) ≡ whyOfSlices machine (now (call .entry)) slot (now (reason .entry)) ⌝ }
 {
     if !is_sized(keys, rows, registers) {
         return BAD_LINE;

@@ -49,7 +49,11 @@ pub fn reads_state(call: Call) -> bool
 // A call, where it reads the state, on one that is whole.
 pub fn make_call(keys: &mut [u64], rows: &mut [u32], s: Scalars, call: Call) -> Made
     requires { ⌜ CallRoom (now keys) (now rows) s call ⌝ }
-    ensures { λ r. ⌜ Makes r s (now (keys .entry)) (now (rows .entry)) (now (keys .exit)) (now (rows .exit)) (step (machineIn (now (keys .entry)) (now (rows .entry)) s) call) ⌝ }
+    ensures { λ r.
+        let keys-in = now (keys .entry) in
+        let rows-in = now (rows .entry) in
+        let m = machineIn keys-in rows-in s in
+        ⌜ Makes r s keys-in rows-in (now (keys .exit)) (now (rows .exit)) (step m call) ⌝ }
 {
     match call {
         Call::Init {

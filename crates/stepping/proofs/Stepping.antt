@@ -53,7 +53,8 @@ pub record Came (reply : Reply) (after : Scalars) (keys′ rows′ : List ℕ) (
   pub still-sized : Sized keys′ rows′
 
 -- on slices whose registers hold the scalars
-pub call-came : {reply : Reply} {call : Call} {s : Scalars} {keys rows registers : List ℕ} {after : Slices} → Sized keys rows → length registers ≡ registersLength
+pub call-came : {reply : Reply} {call : Call} {s : Scalars} {keys rows registers : List ℕ} {after : Slices}
+    → Sized keys rows → length registers ≡ registersLength
     → (restOf registers ≡ s .rest) × (pocOf registers ≡ s .poc)
     → (reply ≡ replyTo (slices keys rows registers) (Line.Good call)) × Leaves (Line.Good call) (slices keys rows registers) after
     → Came reply (scalarsAt (after .registers)) (after .keys) (after .rows) (step (machineIn keys rows s) call)
@@ -74,13 +75,14 @@ module _ {m : Machine} {keys rows : List ℕ} {s : Scalars} (taken : TakenMachin
   all-slots : whole (m .pm) ≡ true → length (m .pm .pic) ≡ slots
   all-slots w = ap (λ (q : EvcPm). length (q .pic)) (sym (taken .same-state w)) ∙ length-map keys (slotAt rows) ∙ taken .sized .slots-long
 
-  module _ (call : Call) {reply : Reply} {after : Scalars} {keys′ rows′ : List ℕ} (came : Came reply after keys′ rows′ (step (machineIn keys rows s) call)) where
+  module _ (call : Call) {reply : Reply} {after : Scalars} {keys′ rows′ : List ℕ}
+      (came : Came reply after keys′ rows′ (step (machineIn keys rows s) call)) where
     same-reply : reply ≡ step m call .reply
     same-reply = came .replies ∙ pick (readsState call) refl (whole (m .pm)) refl
       where
         pick : (b : Bool) → readsState call ≡ b → (w : Bool) → whole (m .pm) ≡ w → step (machineIn keys rows s) call .reply ≡ step m call .reply
         pick false e w f = on-record m (machineIn keys rows s) call e (taken .same-record) .replies
-        pick true e true f = ap (λ (n : Machine). step n call .reply) (same-machine taken f)
+        pick true e true f = rw (same-machine taken f) refl
         pick true e false f = rw (not-whole-step (machineIn keys rows s) call e (taken .same-whole ∙ f), not-whole-step m call e f) refl
 
     comes-to : (n : Machine) → n ≡ step m call .machine → stepped (reply) n ≡ step m call
@@ -100,19 +102,21 @@ module _ {m : Machine} {keys rows : List ℕ} {s : Scalars} (taken : TakenMachin
       was-whole = pick (whole (m .pm)) refl
         where
           seven : whole (m .pm) ≡ false → reply ≡ replyOf (callByte call) (Refused StateNotWhole)
-          seven f = same-reply ∙ ap (λ (x : Stepped). x .reply) (not-whole-step m call e f)
+          seven f = rw (same-reply, not-whole-step m call e f) refl
 
           pick : (w : Bool) → whole (m .pm) ≡ w → whole (m .pm) ≡ true
           pick true f = f
           pick false f = absurd (accepted (rw (seven f) (refusals-in-use StateNotWhole)))
 
       reached : machineIn keys′ rows′ after ≡ step m call .machine
-      reached = came .machine-is ∙ ap (λ (n : Machine). step n call .machine) (same-machine taken was-whole)
+      reached = rw (came .machine-is, same-machine taken was-whole) refl
 
       pub runs : Runs keys′ rows′ after
       runs = record {
         sized = came .still-sized;
-        whole-state = ap (λ (n : Machine). whole (n .pm)) reached ∙ call-sound m call (record { whole-state = was-whole; all-slots = all-slots was-whole }) .whole-state;
+        whole-state =
+            ap (λ (n : Machine). whole (n .pm)) reached
+            ∙ call-sound m call (record { whole-state = was-whole; all-slots = all-slots was-whole }) .whole-state;
       }
 
       pub accepted-is : stepped (reply) (machineIn keys′ rows′ after) ≡ step m call

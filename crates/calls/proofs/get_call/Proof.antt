@@ -19,7 +19,8 @@ same-length-2 c = search needs
 returns : tie.Need-returns
 returns c =
     let called = c .before .before .before .before .before in
-    let s = called .before .before .before .before .before .before .before in
+    let taken = called .before .before .before .before in
+    let s = taken .before .before .before in
     let a = s .args in
     state-makes (a .keys .now) (a .rows .now) (a .s) 2 (c .made .ensures) (get-on-whole _ (s .pre .whole-state)) (called .get .ensures)
 

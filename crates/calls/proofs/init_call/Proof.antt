@@ -12,11 +12,12 @@ made-requires c κs = search needs
 
 returns : tie.Need-returns
 returns c =
-    let s = c .before .before .before .before .before .before in
+    let called = c .before in
+    let s = called .before .before .before .before .before in
     let a = s .args in
     let runs = s .pre in
     state-makes (a .keys .now) (a .rows .now) (a .s) 1 (c .made .ensures) (init-on-whole _ (a .max-pb-size) (a .max-num-ref-pics) (runs .whole-state))
-    (c .before .init .ensures (a .keys .now) (a .rows .now) (runs .sized))
+    (called .init .ensures (a .keys .now) (a .rows .now) (runs .sized))
 
 pub init-call-spec : {M : Type 1} → statement M
 init-call-spec = tie.close (tie.spec init-requires made-requires returns)

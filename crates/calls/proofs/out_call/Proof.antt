@@ -20,7 +20,8 @@ same-length c = search needs
 returns : tie.Need-returns
 returns c =
     let called = c .before .before .before in
-    let s = called .before .before .before .before .before .before in
+    let taken = called .before .before .before in
+    let s = taken .before .before .before in
     let a = s .args in
     state-makes (a .keys .now) (a .rows .now) (a .s) 4 (c .made .ensures) (out-on-whole _ (s .pre .whole-state))
     (called .out .ensures (a .rows .now) (s .pre .sized .rows-long))

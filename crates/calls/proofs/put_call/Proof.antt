@@ -21,8 +21,10 @@ same-length-2 c = search needs
 
 returns : tie.Need-returns
 returns c =
-    let called = c .before .before .before .before .before .before in
-    let s = called .before .before .before .before .before .before .before .before in
+    let back = c .before .before in
+    let called = back .before .before .before .before in
+    let taken = called .before .before .before .before .before in
+    let s = taken .before .before .before in
     let a = s .args in
     state-makes (a .keys .now) (a .rows .now) (a .s) 3 (c .made .ensures) (put-on-whole _ _ (a .call) (s .pre .whole-state)) (called .put .ensures)
 

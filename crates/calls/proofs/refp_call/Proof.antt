@@ -17,7 +17,8 @@ same-length c = search needs
 returns : tie.Need-returns
 returns c =
     let called = c .before .before .before in
-    let s = c .before .before .before .before .before .before .before .before .before .before .before in
+    let taken = called .before .before .before .before .before in
+    let s = taken .before .before .before in
     let a = s .args in
     lists-makes (a .keys .now) (a .rows .now) (a .s) 5 (c .made .ensures) (on-whole _ _ (a .call) (s .pre .whole-state)) (called .refp-init .ensures)
 

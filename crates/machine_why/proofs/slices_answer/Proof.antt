@@ -17,7 +17,8 @@ returns c rows =
     let told = c .before in
     let read = told .before in
     let s = read .before .before .before in
-    not-whole-why (s .args .keys .now) rows (s .args .call) (s .args .slot) (read .rest-of .ensures) (sym (told .is-whole .ensures rows) ∙ not-true _ (c .if1 .taken))
+    not-whole-why (s .args .keys .now) rows (s .args .call) (s .args .slot) (read .rest-of .ensures)
+    (sym (told .is-whole .ensures rows) ∙ not-true _ (c .if1 .taken))
 
 why-on-requires : tie.Need-why-on-requires
 why-on-requires c κs = search needs
@@ -29,7 +30,8 @@ returns-2 c rows =
     let read = told .before in
     let s = read .before .before .before in
     c .why-on .ensures rows
-    ∙ whole-why (s .args .keys .now) rows (s .args .call) (s .args .slot) (read .rest-of .ensures) (sym (told .is-whole .ensures rows) ∙ not-false _ (at-else .if1 .left))
+    ∙ whole-why (s .args .keys .now) rows (s .args .call) (s .args .slot) (read .rest-of .ensures)
+    (sym (told .is-whole .ensures rows) ∙ not-false _ (at-else .if1 .left))
 
 pub slices-answer-spec : {M : Type 1} → statement M
 slices-answer-spec =

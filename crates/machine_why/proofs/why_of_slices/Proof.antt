@@ -10,8 +10,11 @@ use borrow.Author.Needs.{needs}
 use Rattle.machine_why.proofs.why_of_slices.Statement.{statement}
 use Rattle.machine_why.proofs.why_of_slices.Tie as tie
 
+abbrev began : tie.After-is-sized → tie.Start
+began c = let lent = c .before in lent .before .before .before .before .before
+
 abbrev start : tie.Else1 → tie.Start
-start c = c .before .before .before .before .before .before .before
+start c = began (c .before)
 
 abbrev of : tie.Start → Slices
 of s = slices (s .args .keys .now) (s .args .rows .now) (s .args .registers .now)
@@ -25,8 +28,9 @@ is-sized-requires c κs = search needs
 returns : tie.Need-returns
 unfolding whyOfSlices
 returns c =
-    let s = c .before .before .before .before .before .before .before in
-    no-fit _ (machineAt (of s) .pm) (callFrom (s .args .call .now)) (s .args .slot) (s .args .reason .now) (sym (c .before .is-sized .ensures) ∙ not-true _ (c .if1 .taken))
+    let s = began (c .before) in
+    no-fit _ (machineAt (of s) .pm) (callFrom (s .args .call .now)) (s .args .slot) (s .args .reason .now)
+    (sym (c .before .is-sized .ensures) ∙ not-true _ (c .if1 .taken))
 
 returns-2 : tie.Need-returns-2
 unfolding whyOfSlices

@@ -1,10 +1,6 @@
 -- `making::make_call` meets its contract, call by call. Assumes nothing.
-use mathlib.Core.Path.{refl, subst}
-use Rattle.def.specs.declared.{PutCall.PutCall, RefpCall.RefpCall}
-use Rattle.refp.specs.Lists.{lists}
-use Rattle.picman.specs.Put.{put}
-use Rattle.machine.specs.Step.{onState, onLists, step}
-use Rattle.machine.specs.Running.{machineIn, Makes}
+use mathlib.Core.Path.{refl}
+use Rattle.machine.specs.Step.{step}
 use Rattle.machine.proofs.Running.{room-runs, by-call, record-makes}
 use borrow.Author.Needs.{needs}
 use Rattle.making.proofs.make_call.Statement.{statement}
@@ -14,13 +10,17 @@ enum-known-call : tie.Need-enum-known-call
 enum-known-call c = search needs
 
 init-call-requires : tie.Need-init-call-requires
-init-call-requires c κs = let at-call = c .before .before .before in room-runs (at-call .before .before .before .before .pre) (at-call .call .given .1) refl
+init-call-requires c κs =
+    let at-call = c .before .before .before in
+    room-runs (at-call .before .before .before .before .pre) (at-call .call .given .1) refl
 
 enum-told : tie.Need-enum-told
 enum-told c = search needs
 
 get-call-requires : tie.Need-get-call-requires
-get-call-requires c κs = let at-call = c .before .before in room-runs (at-call .before .before .before .before .pre) (at-call .enum-told .given .1) refl
+get-call-requires c κs =
+    let at-call = c .before .before in
+    room-runs (at-call .before .before .before .before .pre) (at-call .enum-told .given .1) refl
 
 enum-known-call-2 : tie.Need-enum-known-call-2
 enum-known-call-2 c = search needs
@@ -29,13 +29,17 @@ put-call-of-requires : tie.Need-put-call-of-requires
 put-call-of-requires c κs = search needs
 
 put-call-requires : tie.Need-put-call-requires
-put-call-requires c κs = let at-call = c .before .before .before .before in room-runs (at-call .before .before .before .before .pre) (at-call .call2 .given .1) refl
+put-call-requires c κs =
+    let at-call = c .before .before .before .before in
+    room-runs (at-call .before .before .before .before .pre) (at-call .call2 .given .1) refl
 
 enum-told-2 : tie.Need-enum-told-2
 enum-told-2 c = search needs
 
 out-call-requires : tie.Need-out-call-requires
-out-call-requires c κs = let at-call = c .before .before in room-runs (at-call .before .before .before .before .pre) (at-call .enum-told2 .given .1) refl
+out-call-requires c κs =
+    let at-call = c .before .before in
+    room-runs (at-call .before .before .before .before .pre) (at-call .enum-told2 .given .1) refl
 
 enum-known-call-3 : tie.Need-enum-known-call-3
 enum-known-call-3 c = search needs
@@ -44,7 +48,9 @@ refp-call-of-requires : tie.Need-refp-call-of-requires
 refp-call-of-requires c κs = search needs
 
 refp-call-requires : tie.Need-refp-call-requires
-refp-call-requires c κs = let at-call = c .before .before .before .before in room-runs (at-call .before .before .before .before .pre) (at-call .call3 .given .1) refl
+refp-call-requires c κs =
+    let at-call = c .before .before .before .before in
+    room-runs (at-call .before .before .before .before .pre) (at-call .call3 .given .1) refl
 
 enum-known-call-4 : tie.Need-enum-known-call-4
 enum-known-call-4 c = search needs
@@ -85,11 +91,8 @@ unfolding step
 returns-3 c =
     let called = c .before .before .before .before in
     let read = called .before in
-    let a = read .before .before .before .before .before .before .before .before .args in
-    let m = machineIn (a .keys .now) (a .rows .now) (a .s) in
-    by-call (read .before .before .before .before .call2 .given .1)
-    (subst (λ (k : PutCall). Makes (called .put-call .result) (a .s) (a .keys .now) (a .rows .now) (called .put-call .last .0) (called .put-call .last .1 .0) (onState 3 m (put (m .pm) (m .refp) k)))
-    (read .put-call-of .ensures) (called .put-call .ensures))
+    let at-call = read .before .before .before .before in
+    by-call (at-call .call2 .given .1) (rw (read .put-call-of .ensures) at (called .put-call .ensures))
 
 same-length-7 : tie.Need-same-length-7
 same-length-7 c = search needs
@@ -114,11 +117,8 @@ unfolding step
 returns-5 c =
     let called = c .before .before in
     let read = called .before in
-    let a = read .before .before .before .before .before .before .before .before .args in
-    let m = machineIn (a .keys .now) (a .rows .now) (a .s) in
-    by-call (read .before .before .before .before .call3 .given .1)
-    (subst (λ (k : RefpCall). Makes (called .refp-call .result) (a .s) (a .keys .now) (a .rows .now) (a .keys .now) (called .refp-call .last .1 .0) (onLists 5 m (lists (m .pm) (m .refp) k)))
-    (read .refp-call-of .ensures) (called .refp-call .ensures))
+    let at-call = read .before .before .before .before in
+    by-call (at-call .call3 .given .1) (rw (read .refp-call-of .ensures) at (called .refp-call .ensures))
 
 returns-6 : tie.Need-returns-6
 unfolding step

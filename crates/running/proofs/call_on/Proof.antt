@@ -7,6 +7,13 @@ use borrow.Author.Needs.{needs}
 use Rattle.running.proofs.call_on.Statement.{statement}
 use Rattle.running.proofs.call_on.Tie as tie
 
+-- where the call was made, where the scalars were read for it, and where this began
+abbrev at-call : tie.After-is-refusal-number → tie.After-checked-call
+at-call c = let replied = c .before in replied .before .before .before .before .before
+
+abbrev at-read : tie.After-checked-call → tie.After-scalars-at
+at-read c = c .before .before .before
+
 abbrev start : tie.After-scalars-at → tie.Start
 start c = c .before .before .before .before .before
 
@@ -31,13 +38,14 @@ same-length-3 c = search needs
 returns : tie.Need-returns
 returns c =
     let tested = c .before in
-    let called = tested .before .before .before .before .before .before in
-    call-refused _ _ (called .before .before .before .scalars-at .ensures) (called .checked-call .ensures) (in-use (called .checked-call .result .reply .status) (sym (tested .is-refusal-number .ensures) ∙ c .if1 .taken))
+    let called = at-call tested in
+    call-refused _ _ (at-read called .scalars-at .ensures) (called .checked-call .ensures)
+    (in-use (called .checked-call .result .reply .status) (sym (tested .is-refusal-number .ensures) ∙ c .if1 .taken))
 
 store-requires : tie.Need-store-requires
 store-requires c κs =
-    let called = c .before .before .before .before .before .before .before .before .before .before .before in
-    start (called .before .before .before) .pre .1
+    let left = c .before .before .before .before in
+    start (at-read (at-call (left .before))) .pre .1
 
 same-length-4 : tie.Need-same-length-4
 same-length-4 c = search needs
@@ -53,8 +61,10 @@ returns-2 c =
     let stored = c .before .before in
     let left = stored .before .before .before .before .before in
     let tested = left .before in
-    let called = tested .before .before .before .before .before .before in
-    call-made _ _ (called .before .before .before .scalars-at .ensures) (called .checked-call .ensures) (not-in-use (called .checked-call .result .reply .status) (sym (tested .is-refusal-number .ensures) ∙ left .if1 .left)) (stored .store .ensures .1 .0) (stored .store .ensures .1 .1)
+    let called = at-call tested in
+    call-made _ _ (at-read called .scalars-at .ensures) (called .checked-call .ensures)
+    (not-in-use (called .checked-call .result .reply .status) (sym (tested .is-refusal-number .ensures) ∙ left .if1 .left))
+    (stored .store .ensures .1 .0) (stored .store .ensures .1 .1)
 
 pub call-on-spec : {M : Type 1} → statement M
 call-on-spec =

@@ -9,8 +9,12 @@ use borrow.Author.Needs.{needs}
 use Rattle.running.proofs.reply_on.Statement.{statement}
 use Rattle.running.proofs.reply_on.Tie as tie
 
+-- where the three slices were lent to be measured, and where the call began
+abbrev lent : tie.Else1 → tie.After-is-sized-arg
+lent c = c .before .before .before .before
+
 abbrev start : tie.Else1 → tie.Start
-start c = c .before .before .before .before .before .before .before .before
+start c = lent c .before .before .before .before
 
 abbrev given : tie.Else1 → Slices
 given c = slices (start c .args .keys .now) (start c .args .rows .now) (start c .args .registers .now)
@@ -43,7 +47,8 @@ enum-known-line c = search needs
 
 call-on-requires : tie.Need-call-on-requires
 call-on-requires c κs =
-    let left = c .before .before .before .before .before .before in
+    let told = c .before .before .before .before in
+    let left = told .before .before in
     sized-long (given left) (fits left)
 
 enum-told : tie.Need-enum-told
@@ -63,7 +68,8 @@ same-length-6 c = search needs
 
 returns-2 : tie.Need-returns-2
 returns-2 c =
-    let called = c .before .before .before .before .before .before in
+    let rows-back = c .before .before .before in
+    let called = rows-back .before .before .before in
     let told = called .before .before .before .before .before in
     let left = told .before .before in
     by-line (told .line .given .1) (good-line (given left) _ (fits left) (called .call-on .ensures) (search needs) (search needs) (search needs))

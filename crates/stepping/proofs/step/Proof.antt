@@ -7,15 +7,18 @@ use borrow.Author.Needs.{needs}
 use Rattle.stepping.proofs.step.Statement.{statement}
 use Rattle.stepping.proofs.step.Tie as tie
 
--- where the call was made, where the registers were written, and where the machine was taken apart
+-- where the call was made, where the registers were written, where the scalars for them were read, and where the machine was taken apart
 abbrev at-reply : tie.After-is-refusal-number → tie.After-reply-on
 at-reply c = c .before .before .before .before
 
 abbrev at-store : tie.After-reply-on → tie.After-store
 at-store c = c .before .before .before .before .before
 
+abbrev at-scalars : tie.After-store → tie.After-rest
+at-scalars c = c .before .before .before
+
 abbrev at-take : tie.After-store → tie.After-take-machine
-at-take c = c .before .before .before .before .before .before
+at-take c = at-scalars c .before .before .before
 
 abbrev start : tie.After-take-machine → tie.Start
 start c = c .before .before .before
@@ -56,7 +59,8 @@ returns c =
     let called = at-reply told in
     let stored = at-store called in
     let taken = at-take stored in
-    let came = call-came (taken .take-machine .ensures .sized) (ap length (stored .store .ensures .0)) (stored .store .ensures .1) (called .reply-on .ensures) in
+    let long = ap length (stored .store .ensures .0) in
+    let came = call-came (taken .take-machine .ensures .sized) long (stored .store .ensures .1) (called .reply-on .ensures) in
     turned-down (taken .take-machine .ensures) (start taken .args .call) came (in-use _ (sym (told .is-refusal-number .ensures) ∙ c .if1 .taken))
 
 slice-aggregate-scalars-at : tie.Need-slice-aggregate-scalars-at
@@ -83,7 +87,8 @@ put-machine-requires c κs =
     let called = at-reply told in
     let stored = at-store called in
     let taken = at-take stored in
-    let came = call-came (taken .take-machine .ensures .sized) (ap length (stored .store .ensures .0)) (stored .store .ensures .1) (called .reply-on .ensures) in
+    let long = ap length (stored .store .ensures .0) in
+    let came = call-came (taken .take-machine .ensures .sized) long (stored .store .ensures .1) (called .reply-on .ensures) in
     rw (reads .before .scalars-at .ensures)
     (runs (taken .take-machine .ensures) (start taken .args .call) came (sym (reads .reads-state .ensures) ∙ at-read .if2 .taken)
     (not-in-use _ (sym (told .is-refusal-number .ensures) ∙ left .if1 .left)))
@@ -97,7 +102,8 @@ returns-2 c =
     let called = at-reply told in
     let stored = at-store called in
     let taken = at-take stored in
-    let came = call-came (taken .take-machine .ensures .sized) (ap length (stored .store .ensures .0)) (stored .store .ensures .1) (called .reply-on .ensures) in
+    let long = ap length (stored .store .ensures .0) in
+    let came = call-came (taken .take-machine .ensures .sized) long (stored .store .ensures .1) (called .reply-on .ensures) in
     rw (c .put-machine .ensures, reads .before .scalars-at .ensures)
     (accepted-is (taken .take-machine .ensures) (start taken .args .call) came (sym (reads .reads-state .ensures) ∙ at-read .if2 .taken)
     (not-in-use _ (sym (told .is-refusal-number .ensures) ∙ left .if1 .left)))
@@ -111,7 +117,8 @@ returns-3 c =
     let called = at-reply told in
     let stored = at-store called in
     let taken = at-take stored in
-    let came = call-came (taken .take-machine .ensures .sized) (ap length (stored .store .ensures .0)) (stored .store .ensures .1) (called .reply-on .ensures) in
+    let long = ap length (stored .store .ensures .0) in
+    let came = call-came (taken .take-machine .ensures .sized) long (stored .store .ensures .1) (called .reply-on .ensures) in
     rw (reads .before .scalars-at .ensures)
     (derived (taken .take-machine .ensures) (start taken .args .call) came (sym (reads .reads-state .ensures) ∙ at-rest .if2 .left))
 
