@@ -19,7 +19,8 @@ isFinal LastWriteFailed = true
 -- What was given to be written: all is handed on as it was meant, or the write failed.
 pub data Given : Handed → Handed → Went → Type 0 where
   taken : {meant : Handed} {otherwise : Went} → Given meant meant otherwise
-  failed : {meant : Handed} {otherwise : Went} → Given (record { session = meant .session; heard = meant .heard; written = meant .written; went = otherwise }) meant otherwise
+  failed : {meant : Handed} {otherwise : Went}
+      → Given (record { session = meant .session; heard = meant .heard; written = meant .written; went = otherwise }) meant otherwise
 
 -- At the end of the input: the answer to a last line that lacks its newline stands at the front of `out`.
 pub record Finished (keys rows : List ℕ) (last : Handed) (out : List ℕ) (t : Handed) (out′ : List ℕ) : Type 0 where

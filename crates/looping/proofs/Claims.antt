@@ -28,20 +28,25 @@ pub record Agrees (r : Runner) (given : List ℕ) (f : Fed) : Type 0 where
 
 -- ---- one turn, from any run that agrees with the session
 
-module _ (keys rows : List ℕ) (s : Session) (out keys′ rows′ out′ : List ℕ) (t : Handed) (piece′ : List ℕ) (r : Runner) (a : Alike (runnerIn keys rows s) r) where
+module _ (keys rows : List ℕ) (s : Session) (out keys′ rows′ out′ : List ℕ) (t : Handed) (piece′ : List ℕ)
+    (r : Runner) (a : Alike (runnerIn keys rows s) r) where
   idle-agrees : Idle keys rows s out t keys′ rows′ out′ → clamped (t .heard .got) (length piece′) ≡ 0
       → Agrees (runnerIn keys′ rows′ (t .session)) (take (t .written) out′) (feed r (broughtBy t piece′))
   unfolding feed
   idle-agrees i e = rw (i .same-keys, i .same-rows, i .same-session, i .nothing-written, e) (record { alike = a; wrote = refl })
 
-  ranging-agrees : Ranging keys rows s out t keys′ rows′ piece′ out′ → Agrees (runnerIn keys′ rows′ (t .session)) (take (t .written) out′) (feed r (broughtBy t piece′))
+  ranging-agrees : Ranging keys rows s out t keys′ rows′ piece′ out′
+      → Agrees (runnerIn keys′ rows′ (t .session)) (take (t .written) out′) (feed r (broughtBy t piece′))
   ranging-agrees i =
       let n = feed-alike (broughtBy t piece′) a in
       let e = i .ran in
       record {
         alike = record {
           machines = e .machine ∙ n .runners .machines;
-          lines = ap (take keptLength) (e .line) ∙ take-take keptLength keptLength (feed (runnerIn keys rows s) (broughtBy t piece′) .runner .line) (omega arith) ∙ n .runners .lines;
+          lines =
+              ap (take keptLength) (e .line)
+              ∙ take-take keptLength keptLength (feed (runnerIn keys rows s) (broughtBy t piece′) .runner .line) (omega arith)
+              ∙ n .runners .lines;
         };
         wrote = front out′ _ _ (t .written) (e .written) (e .length-is) ∙ n .written;
       }
@@ -70,7 +75,8 @@ pub turns-agree : {keys rows keys′ rows′ piece′ out′ given : List ℕ} {
     → Agrees (runnerIn keys′ rows′ (t .session)) given (feed r (joined pieces))
 turns-agree {keys} {rows} {keys′} {rows′} {piece′} {out′} {s = s} {t = t} (one-turn out turned) r a =
     rw (joined-one (broughtBy t piece′)) (turn-agrees keys rows s out keys′ rows′ out′ t piece′ r a (t .went) turned)
-turns-agree {keys′ = keys″} {rows′ = rows″} {piece′ = piece″} {out′ = out″} {t = u} (next-turn {keys′ = keys′} {rows′ = rows′} {out′ = out′} {given = given} {pieces = pieces} {t = t} before on turned) r a =
+turns-agree {keys′ = keys″} {rows′ = rows″} {piece′ = piece″} {out′ = out″} {t = u}
+    (next-turn {keys′ = keys′} {rows′ = rows′} {out′ = out′} {given = given} {pieces = pieces} {t = t} before on turned) r a =
     let p = broughtBy u piece″ in
     let b = turns-agree before r a in
     let n = turn-agrees keys′ rows′ (t .session) out′ keys″ rows″ out″ u piece″ (feed r (joined pieces) .runner) (b .alike) (u .went) turned in

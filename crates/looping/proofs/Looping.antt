@@ -21,14 +21,14 @@ pub record Reached (keys rows : List ℕ) (s : Session) (t : Handed) (keys′ ro
   pub turns : Turns keys rows s pieces given t keys′ rows′ piece′ out′
   pub number : length pieces ≡ n
 
-pub reach-first : {keys rows : List ℕ} {s : Session} (out : List ℕ) (t : Handed) (keys′ rows′ piece′ out′ : List ℕ)
+pub reach-first : {keys rows keys′ rows′ piece′ out′ : List ℕ} {s : Session} {t : Handed} (out : List ℕ)
     → Turned (t .went) keys rows s out t keys′ rows′ piece′ out′ → Reached keys rows s t keys′ rows′ piece′ out′ 1
-reach-first out t keys′ rows′ piece′ out′ turned = record { pieces = _; given = _; turns = one-turn out turned; number = refl }
+reach-first out turned = record { pieces = _; given = _; turns = one-turn out turned; number = refl }
 
-pub reach-next : {keys rows keys′ rows′ piece′ out′ : List ℕ} {s : Session} {t : Handed} {n : ℕ} (u : Handed) (keys″ rows″ piece″ out″ : List ℕ)
+pub reach-next : {keys rows keys′ rows′ piece′ out′ keys″ rows″ piece″ out″ : List ℕ} {s : Session} {t u : Handed} {n : ℕ}
     → Reached keys rows s t keys′ rows′ piece′ out′ n → isOn (t .went) ≡ true → Turned (u .went) keys′ rows′ (t .session) out′ u keys″ rows″ piece″ out″
     → Reached keys rows s u keys″ rows″ piece″ out″ (n + 1)
-reach-next {t = t} u keys″ rows″ piece″ out″ r on turned =
+reach-next {piece″ = piece″} {t = t} {u} r on turned =
     record {
       pieces = _;
       given = _;
@@ -56,8 +56,8 @@ looped r e = record { pieces = r .pieces; given = r .given; turns = r .turns; us
 
 pub turns-sound : {keys rows keys′ rows′ piece′ out′ given : List ℕ} {s : Session} {pieces : List (List ℕ)} {t : Handed}
     → Turns keys rows s pieces given t keys′ rows′ piece′ out′ → SoundSession keys rows s → SoundSession keys′ rows′ (t .session)
-turns-sound {t = t} (one-turn out turned) sound = turned-sound out t _ _ _ _ sound (t .went) turned
-turns-sound {t = t} (next-turn before on turned) sound = turned-sound _ t _ _ _ _ (turns-sound before sound) (t .went) turned
+turns-sound {t = t} (one-turn out turned) sound = turned-sound out t _ _ sound (t .went) turned
+turns-sound {t = t} (next-turn before on turned) sound = turned-sound _ t _ _ (turns-sound before sound) (t .went) turned
 
 -- No turn writes the last line.
 pub never-last : {keys rows keys′ rows′ piece′ out′ given : List ℕ} {s : Session} {pieces : List (List ℕ)} {t : Handed}

@@ -34,7 +34,9 @@ pub fn turns(
     out: &mut [u8],
 ) -> Handed
     requires { ⌜ TurnRoom (now keys) (now rows) session (now tables) (now piece) (now out) ⌝ }
-    ensures { λ r. ⌜ Looped (now (keys .entry)) (now (rows .entry)) session r (now (keys .exit)) (now (rows .exit)) (now (piece .exit)) (now (out .exit)) ⌝ }
+    ensures { λ r.
+        ⌜ Looped (now (keys .entry)) (now (rows .entry)) session
+        r (now (keys .exit)) (now (rows .exit)) (now (piece .exit)) (now (out .exit)) ⌝ }
 {
     let mut handed = turn(keys, rows, session, tables, pipes, piece, out);
     let mut left = u64::MAX;

@@ -35,15 +35,20 @@ over-writes {keys} {rows} {s = s} (after-piece {piece = piece} {pieces} {out′ 
     let wrote : take (ran .len) out′ ≡ feed r piece .written = front out′ _ _ (ran .len) (e .written) (e .length-is) ∙ n .written in
     let next : Alike _ (feed r piece .runner) = record {
       machines = e .machine ∙ n .runners .machines;
-      lines = ap (take keptLength) (e .line) ∙ take-take keptLength keptLength (feed (runnerIn keys rows s) piece .runner .line) (omega arith) ∙ n .runners .lines;
+      lines =
+          ap (take keptLength) (e .line)
+          ∙ take-take keptLength keptLength (feed (runnerIn keys rows s) piece .runner .line) (omega arith)
+          ∙ n .runners .lines;
     } in
     let later = over-writes more (feed r piece .runner) next in
-    ap (λ (w : List ℕ). w ++ rest) wrote
-    ∙ ap (λ (w : List ℕ). feed r piece .written ++ w) later
-    ∙ sym (append-assoc (feed r piece .written) (feedPieces (feed r piece .runner) pieces .written) (finish (feedPieces (feed r piece .runner) pieces .runner)))
+    rw (wrote, later)
+    (sym (append-assoc (feed r piece .written) (feedPieces (feed r piece .runner) pieces .written) (finish (feedPieces (feed r piece .runner) pieces .runner))))
 
 pub new-alike : (s : Session) → NewSession s → Alike (runnerIn newKeys newRows s) start
-new-alike s new = record { machines = ap (machineIn newKeys newRows) (new .new-scalars) ∙ new-machine newRows refl; lines = ap (take keptLength) (new .no-line) }
+new-alike s new = record {
+  machines = ap (machineIn newKeys newRows) (new .new-scalars) ∙ new-machine newRows refl;
+  lines = ap (take keptLength) (new .no-line);
+}
 
 pub run-writes : RunWrites
 run-writes s pieces written new o = over-writes o start (new-alike s new) ∙ pieces-agree pieces

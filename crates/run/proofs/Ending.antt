@@ -17,8 +17,8 @@ module _ (keys rows : List ℕ) (s : Session) (out : List ℕ) where
   pub end-none : s .partial .len ≡ 0 → EndedOver keys rows s out 0 out
   unfolding answersTo
   end-none e =
-      let none : finish (runnerIn keys rows s) ≡ [] = ap (λ (n : ℕ). answersTo (machineIn keys rows (s .scalars)) (lastLine (take n (s .partial .bytes)))) e in
-      record { written = sym (ap (λ (w : List ℕ). w ++ out) none); length-is = sym (ap length none) }
+      let none : finish (runnerIn keys rows s) ≡ [] = rw e refl in
+      record { written = rw none refl; length-is = rw none refl }
 
   -- A newline behind the line that is not finished yet ends it.
   end-feed : (s .partial .len ≡ 0 → ⊥) → Room (s .partial) → feed (runnerIn keys rows s) (newline ∷ []) .written ≡ finish (runnerIn keys rows s)
@@ -26,7 +26,8 @@ module _ (keys rows : List ℕ) (s : Session) (out : List ℕ) where
   end-feed n r = by (heldLine (s .partial)) (length-take-le (s .partial .len) (s .partial .bytes) (let b = r .bytes-long in let f = r .fits in omega arith))
     where
       by : (l : List ℕ) → length l ≡ s .partial .len
-          → feed (record { machine = machineIn keys rows (s .scalars); line = l }) (newline ∷ []) .written ≡ answersTo (machineIn keys rows (s .scalars)) (lastLine l)
+          → feed (record { machine = machineIn keys rows (s .scalars); line = l }) (newline ∷ []) .written
+          ≡ answersTo (machineIn keys rows (s .scalars)) (lastLine l)
       by [] e = absurd (n (sym e))
       by (c ∷ cs) e = refl
 

@@ -43,7 +43,10 @@ extend-alike {r} {s} c a =
       runners =
           record {
             machines = a .machines;
-            lines = sym (take-more keptLength (r .line) (c ∷ [])) ∙ ap (λ (l : List ℕ). take keptLength (l ++ (c ∷ []))) (a .lines) ∙ take-more keptLength (s .line) (c ∷ []);
+            lines =
+                sym (take-more keptLength (r .line) (c ∷ []))
+                ∙ ap (λ (l : List ℕ). take keptLength (l ++ (c ∷ []))) (a .lines)
+                ∙ take-more keptLength (s .line) (c ∷ []);
           };
       written = refl;
     }
@@ -54,7 +57,7 @@ endOf m l = record { runner = record { machine = stepLine m l .machine; line = [
 
 end-alike : {r s : Runner} → Alike r s → FedAlike (endLine r) (endLine s)
 end-alike {r} {s} a =
-    let e : endLine r ≡ endLine s = ap (λ (m : Machine). endOf m (readLine (r .line))) (a .machines) ∙ ap (endOf (s .machine)) (alike-reads a) in
+    let e : endLine r ≡ endLine s = rw (a .machines, alike-reads a) refl in
     record {
       runners = record { machines = ap (λ (f : Fed). f .runner .machine) e; lines = refl };
       written = ap (λ (f : Fed). f .written) e;
@@ -79,8 +82,9 @@ pub finish-alike : {r s : Runner} → Alike r s → finish r ≡ finish s
 unfolding answersTo
 finish-alike {r} {s} a = ap (λ (m : Machine). answersTo m (lastLine (r .line))) (a .machines) ∙ by (r .line) (s .line) (a .lines) (alike-reads a)
   where
-    by : (l k : List ℕ) → take keptLength l ≡ take keptLength k → readLine l ≡ readLine k → answersTo (s .machine) (lastLine l) ≡ answersTo (s .machine) (lastLine k)
+    by : (l k : List ℕ) → take keptLength l ≡ take keptLength k → readLine l ≡ readLine k
+        → answersTo (s .machine) (lastLine l) ≡ answersTo (s .machine) (lastLine k)
     by [] [] e f = refl
     by [] (c ∷ cs) e f = absurd (let z : _≡_ {A = ℕ} 0 1 = cc in omega arith)
     by (c ∷ cs) [] e f = absurd (let z : _≡_ {A = ℕ} 0 1 = cc in omega arith)
-    by (c ∷ cs) (d ∷ ds) e f = ap (λ (l : Line). answerLine (stepLine (s .machine) l .reply) ++ []) f
+    by (c ∷ cs) (d ∷ ds) e f = rw f refl

@@ -33,9 +33,12 @@ feed-answers r (c ∷ cs) = go (eqb c newline) (feed-answers (endLine r .runner)
 
     go : (b : Bool) → rest (endLine r) ≡ answersTo (endLine r .runner .machine) (linesFrom [] cs)
         → rest (extendLine r c) ≡ answersTo (r .machine) (linesFrom (r .line ++ (c ∷ [])) cs)
-        → ((cond b (endLine r) (extendLine r c)) .written ++ feed ((cond b (endLine r) (extendLine r c)) .runner) cs .written) ++ finish (feed ((cond b (endLine r) (extendLine r c)) .runner) cs .runner)
+        → let f = cond b (endLine r) (extendLine r c) in
+        (f .written ++ feed (f .runner) cs .written) ++ finish (feed (f .runner) cs .runner)
         ≡ answersTo (r .machine) (cond b ((r .line) ∷ linesFrom [] cs) (linesFrom (r .line ++ (c ∷ [])) cs))
-    go true ended extended = append-assoc (endLine r .written) (feed (endLine r .runner) cs .written) (finish (feed (endLine r .runner) cs .runner)) ∙ ap (λ (w : List ℕ). endLine r .written ++ w) ended
+    go true ended extended =
+        append-assoc (endLine r .written) (feed (endLine r .runner) cs .written) (finish (feed (endLine r .runner) cs .runner))
+        ∙ ap (λ (w : List ℕ). endLine r .written ++ w) ended
     go false ended extended = extended
 
 pub pieces-agree : PiecesAgree

@@ -98,7 +98,11 @@ fn bad_line(scalars: Scalars) -> Made
 // What a line does.
 fn answer_line(keys: &mut [u64], rows: &mut [u32], scalars: Scalars, line: Line) -> Made
     requires { ⌜ Runs (now keys) (now rows) scalars ⌝ }
-    ensures { λ r. ⌜ Makes r scalars (now (keys .entry)) (now (rows .entry)) (now (keys .exit)) (now (rows .exit)) (stepLine (machineIn (now (keys .entry)) (now (rows .entry)) scalars) line) ⌝ }
+    ensures { λ r.
+        let keys-in = now (keys .entry) in
+        let rows-in = now (rows .entry) in
+        let m = machineIn keys-in rows-in scalars in
+        ⌜ Makes r scalars keys-in rows-in (now (keys .exit)) (now (rows .exit)) (stepLine m line) ⌝ }
 {
     match line {
         Line::Good(call) => make_call(keys, rows, scalars, call),
@@ -117,7 +121,9 @@ pub fn run_piece(
     out: &mut [u8],
 ) -> Ran
     requires { ⌜ RunRoom (now keys) (now rows) session (now tables) (now piece) (now out) ⌝ }
-    ensures { λ r. ⌜ RanOver (now (keys .entry)) (now (rows .entry)) session (now (piece .entry)) (now (out .entry)) r (now (keys .exit)) (now (rows .exit)) (now (out .exit)) ⌝ }
+    ensures { λ r.
+        ⌜ RanOver (now (keys .entry)) (now (rows .entry)) session (now (piece .entry)) (now (out .entry))
+        r (now (keys .exit)) (now (rows .exit)) (now (out .exit)) ⌝ }
 {
     let mut scalars = session.scalars;
     let mut partial = session.partial;

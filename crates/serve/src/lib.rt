@@ -46,7 +46,9 @@ fn serve_lines(
     out: &mut [u8],
 ) -> Handed
     requires { ⌜ TurnRoom (now keys) (now rows) session (now tables) (now piece) (now out) ⌝ }
-    ensures { λ r. ⌜ Served (r .went) (now (keys .entry)) (now (rows .entry)) session r (now (keys .exit)) (now (rows .exit)) (now (piece .exit)) (now (out .exit)) ⌝ }
+    ensures { λ r.
+        ⌜ Served (r .went) (now (keys .entry)) (now (rows .entry)) session
+        r (now (keys .exit)) (now (rows .exit)) (now (piece .exit)) (now (out .exit)) ⌝ }
 {
     let last = turns(keys, rows, session, tables, pipes, piece, out);
     if has_ended(last) {

@@ -25,7 +25,8 @@ use Rattle.exchange.specs.Lent.{badLine, notWhole, left, machineOf, machineByte
 use Rattle.transfer.specs.Exchanged.{loadStatus, Loads, saved, Saves}
 
 -- scalars by their parts are those that registers are read as
-scalars-at : (keys rows registers : List ℕ) (s : Scalars) → restOf registers ≡ s .rest → pocOf registers ≡ s .poc → machineAt (slices keys rows registers) ≡ machineIn keys rows s
+scalars-at : (keys rows registers : List ℕ) (s : Scalars) → restOf registers ≡ s .rest → pocOf registers ≡ s .poc
+    → machineAt (slices keys rows registers) ≡ machineIn keys rows s
 scalars-at keys rows registers s e f = ap₂ (λ (q : Rest) (p : EvcPoc). machineIn keys rows (record { rest = q; poc = p })) e f
 
 module _ (keys rows registers : List ℕ) where
@@ -42,7 +43,9 @@ module _ (keys rows registers : List ℕ) where
     }
 
     pub registers-long : length registers ≡ registersLength
-    registers-long = eqb-true (length registers) registersLength (and-right (eqb (length keys) slots && eqb (length rows) rowsLength) (eqb (length registers) registersLength) fit)
+    registers-long =
+        eqb-true (length registers) registersLength
+        (and-right (eqb (length keys) slots && eqb (length rows) rowsLength) (eqb (length registers) registersLength) fit)
 
   module _ (image : List ℕ) where
     -- ---- load
@@ -90,7 +93,8 @@ module _ (keys rows registers : List ℕ) where
       pub save-not-whole : whole (stands keys rows (restOf registers)) ≡ false → Saves notWhole keys rows registers image image
       save-not-whole w = save-refused notWhole (rw (fit, eq-eqb (length image) imageLength long, w)) (λ z. omega arith)
 
-      pub save-done : whole (stands keys rows (restOf registers)) ≡ true → (m : Machine) (s : Scalars) → m ≡ machineIn keys rows s → restOf registers ≡ s .rest → pocOf registers ≡ s .poc
+      pub save-done : whole (stands keys rows (restOf registers)) ≡ true
+          → (m : Machine) (s : Scalars) → m ≡ machineIn keys rows s → restOf registers ≡ s .rest → pocOf registers ≡ s .poc
           → (image′ : List ℕ) → image′ ≡ machineBytes m → ImageHolds image′ m → Saves 0 keys rows registers image image′
       save-done w m s e f g image′ b h =
           let same : m ≡ machineAt (slices keys rows registers) = e ∙ sym (scalars-at keys rows registers s f g) in

@@ -42,7 +42,9 @@ fn state_is_whole(m: Machine) -> bool
 // Arrays of the right sizes get the machine of an image that was found to be one.
 fn load_image(keys: &mut [u64], rows: &mut [u32], registers: &mut [u32], image: &[u8]) -> u8
     requires { ⌜ (sized (slices (now keys) (now rows) (now registers)) ≡ true) × (isImage (now image) ≡ true) ⌝ }
-    ensures { λ r. ⌜ Loads r (now (keys .entry)) (now (rows .entry)) (now (registers .entry)) (now (image .entry)) (now (keys .exit)) (now (rows .exit)) (now (registers .exit)) ⌝ }
+    ensures { λ r.
+        ⌜ Loads r (now (keys .entry)) (now (rows .entry)) (now (registers .entry)) (now (image .entry))
+        (now (keys .exit)) (now (rows .exit)) (now (registers .exit)) ⌝ }
 {
     let m = read_machine(image);
     if !state_is_whole(m) {
@@ -57,7 +59,9 @@ fn load_image(keys: &mut [u64], rows: &mut [u32], registers: &mut [u32], image: 
 
 // The arrays get the machine of an image: 0. Nothing is written under 18 and 7.
 pub fn load(keys: &mut [u64], rows: &mut [u32], registers: &mut [u32], image: &[u8]) -> u8
-    ensures { λ r. ⌜ Loads r (now (keys .entry)) (now (rows .entry)) (now (registers .entry)) (now (image .entry)) (now (keys .exit)) (now (rows .exit)) (now (registers .exit)) ⌝ }
+    ensures { λ r.
+        ⌜ Loads r (now (keys .entry)) (now (rows .entry)) (now (registers .entry)) (now (image .entry))
+        (now (keys .exit)) (now (rows .exit)) (now (registers .exit)) ⌝ }
 {
     if !is_sized(keys, rows, registers) {
         return BAD_LINE;
@@ -71,7 +75,9 @@ pub fn load(keys: &mut [u64], rows: &mut [u32], registers: &mut [u32], image: &[
 // An image of the right size gets the machine of arrays of the right sizes.
 fn save_machine(keys: &[u64], rows: &[u32], registers: &[u32], image: &mut [u8]) -> u8
     requires { ⌜ (sized (slices (now keys) (now rows) (now registers)) ≡ true) × (length (now image) ≡ imageLength) ⌝ }
-    ensures { λ r. ⌜ Saves r (now (keys .entry)) (now (rows .entry)) (now (registers .entry)) (now (image .entry)) (now (image .exit)) ⌝ }
+    ensures { λ r.
+        ⌜ Saves r (now (keys .entry)) (now (rows .entry)) (now (registers .entry)) (now (image .entry))
+        (now (image .exit)) ⌝ }
 {
     let rest = rest_of(registers);
     if !is_whole(keys, rest) {
@@ -86,7 +92,9 @@ fn save_machine(keys: &[u64], rows: &[u32], registers: &[u32], image: &mut [u8])
 
 // The image gets the machine of the arrays: 0. Nothing is written under 18 and 7.
 pub fn save(keys: &[u64], rows: &[u32], registers: &[u32], image: &mut [u8]) -> u8
-    ensures { λ r. ⌜ Saves r (now (keys .entry)) (now (rows .entry)) (now (registers .entry)) (now (image .entry)) (now (image .exit)) ⌝ }
+    ensures { λ r.
+        ⌜ Saves r (now (keys .entry)) (now (rows .entry)) (now (registers .entry)) (now (image .entry))
+        (now (image .exit)) ⌝ }
 {
     if !is_sized(keys, rows, registers) {
         return BAD_LINE;

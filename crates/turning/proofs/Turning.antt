@@ -32,31 +32,33 @@ idle-sound : {keys rows out keys′ rows′ out′ : List ℕ} {s : Session} {t 
     → SoundSession keys′ rows′ (t .session)
 idle-sound sound i = rw (i .same-keys, i .same-rows, i .same-session) sound
 
-pub turned-sound : {keys rows : List ℕ} {s : Session} (out : List ℕ) (t : Handed) (keys′ rows′ piece′ out′ : List ℕ) → SoundSession keys rows s
+pub turned-sound : {keys rows keys′ rows′ : List ℕ} {s : Session} (out : List ℕ) (t : Handed) (piece′ out′ : List ℕ) → SoundSession keys rows s
     → (w : Went) → Turned w keys rows s out t keys′ rows′ piece′ out′ → SoundSession keys′ rows′ (t .session)
-turned-sound out t keys′ rows′ piece′ out′ sound On r = r .ran .stays-sound
-turned-sound out t keys′ rows′ piece′ out′ sound WriteFailed r = r .ran .stays-sound
-turned-sound out t keys′ rows′ piece′ out′ sound InputEnded i = idle-sound sound (i .0)
-turned-sound out t keys′ rows′ piece′ out′ sound ReadFailed i = idle-sound sound (i .0)
-turned-sound out t keys′ rows′ piece′ out′ sound LastWriteFailed i = absurd i
+turned-sound out t piece′ out′ sound On r = r .ran .stays-sound
+turned-sound out t piece′ out′ sound WriteFailed r = r .ran .stays-sound
+turned-sound out t piece′ out′ sound InputEnded i = idle-sound sound (i .0)
+turned-sound out t piece′ out′ sound ReadFailed i = idle-sound sound (i .0)
+turned-sound out t piece′ out′ sound LastWriteFailed i = absurd i
 
 -- A turn keeps the room for the next.
-pub still-room : {keys rows tables piece : List ℕ} {s : Session} (out : List ℕ) (t : Handed) (keys′ rows′ piece′ out′ : List ℕ)
+pub still-room : {keys rows tables piece out keys′ rows′ piece′ out′ : List ℕ} {s : Session} (t : Handed)
     → TurnRoom keys rows s tables piece out → Turned (t .went) keys rows s out t keys′ rows′ piece′ out′
     → length piece′ ≡ length piece → length out′ ≡ length out → TurnRoom keys′ rows′ (t .session) tables piece′ out′
-still-room out t keys′ rows′ piece′ out′ room turned p o =
+still-room {out = out} {piece′ = piece′} {out′ = out′} t room turned p o =
     let a = room .answers-fit in
     let b = room .answer-fits in
     record {
-      sound = turned-sound out t keys′ rows′ piece′ out′ (room .sound) (t .went) turned;
+      sound = turned-sound out t piece′ out′ (room .sound) (t .went) turned;
       tables-are = room .tables-are;
       answers-fit = omega arith;
       answer-fits = omega arith;
     }
 
-pub idle-turn : (keys rows : List ℕ) (s : Session) (out : List ℕ) (t : Handed) (h : Heard) (w : Went) → t ≡ record { session = s; heard = h; written = 0; went = w } → Patient h
-    → Idle keys rows s out t keys rows out
-idle-turn keys rows s out t h w e p = rw e (record { same-keys = refl; same-rows = refl; same-session = refl; same-out = refl; nothing-written = refl; heard-out = p })
+pub idle-turn : {keys rows out : List ℕ} {s : Session} {t : Handed} {h : Heard} {w : Went}
+    → t ≡ record { session = s; heard = h; written = 0; went = w } → Patient h → Idle keys rows s out t keys rows out
+idle-turn e p =
+    rw e
+    (record { same-keys = refl; same-rows = refl; same-session = refl; same-out = refl; nothing-written = refl; heard-out = p })
 
 -- A turn that read, whatever became of its write.
 pub ranged : {keys rows keys′ rows′ out out′ : List ℕ} (piece : List ℕ) {s next : Session} {h : Heard} {len n : ℕ} {z : ℤ} {r : Handed}

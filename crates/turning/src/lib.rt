@@ -40,8 +40,12 @@ pub fn turn(
     out: &mut [u8],
 ) -> Handed
     requires { ⌜ TurnRoom (now keys) (now rows) session (now tables) (now piece) (now out) ⌝ }
-    ensures handed { λ r. ⌜ Turned (r .went) (now (keys .entry)) (now (rows .entry)) session (now (out .entry)) r (now (keys .exit)) (now (rows .exit)) (now (piece .exit)) (now (out .exit)) ⌝ }
-    ensures sizes { λ _. ⌜ (length (now (piece .exit)) ≡ length (now (piece .entry))) × (length (now (out .exit)) ≡ length (now (out .entry))) ⌝ }
+    ensures handed { λ r.
+        ⌜ Turned (r .went) (now (keys .entry)) (now (rows .entry)) session (now (out .entry))
+        r (now (keys .exit)) (now (rows .exit)) (now (piece .exit)) (now (out .exit)) ⌝ }
+    ensures sizes { λ _.
+        ⌜ (length (now (piece .exit)) ≡ length (now (piece .entry)))
+        × (length (now (out .exit)) ≡ length (now (out .entry))) ⌝ }
 {
     let heard = read_some(pipes.input, piece);
     let got = heard.got;

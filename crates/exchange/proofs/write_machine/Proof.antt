@@ -13,8 +13,10 @@ same-length c = search needs
 
 returns : tie.Need-returns
 returns c =
-    let start = c .before .before .before .before .before .before .before .before in
-    let e = c .before .before .write-image .ensures in
+    let written = c .before .before in
+    let taken = written .before .before .before .before in
+    let start = taken .before .before in
+    let e = written .write-image .ensures in
     (e, rw e (holds (start .args .machine) _ (start .good .1 .0)))
 
 pub write-machine-spec : {M : Type 1} → statement M

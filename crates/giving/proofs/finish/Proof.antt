@@ -4,11 +4,15 @@ use borrow.Author.Needs.{needs}
 use Rattle.giving.proofs.finish.Statement.{statement}
 use Rattle.giving.proofs.finish.Tie as tie
 
+-- where the last line was run
+abbrev at-end : tie.After-give-arg → tie.After-run-end
+at-end c = let rows-back = c .before .before .before in rows-back .before .before .before .before
+
 run-end-requires : tie.Need-run-end-requires
 run-end-requires c κs = search needs
 
 give-requires : tie.Need-give-requires
-give-requires c κs = end-within (c .before .before .before .before .before .before .before .run-end .ensures)
+give-requires c κs = end-within (at-end c .run-end .ensures)
 
 same-length : tie.Need-same-length
 same-length c = search needs
@@ -20,7 +24,7 @@ same-length-3 : tie.Need-same-length-3
 same-length-3 c = search needs
 
 returns : tie.Need-returns
-returns c = all-answered (c .before .before .before .before .before .before .before .before .run-end .ensures) (c .give .ensures)
+returns c = all-answered (at-end (c .before) .run-end .ensures) (c .give .ensures)
 
 pub finish-spec : {M : Type 1} → statement M
 finish-spec =

@@ -39,7 +39,8 @@ returns : tie.Need-returns
 unfolding pmOf
 returns c =
     let next = c .before in
-    let lease = next .before .before .before .before .before .before .before in
+    let counts = next .before .before .before in
+    let lease = counts .before .before .before .before in
     rw (next .read-word .ensures, lease .read-slot .ensures, lease .before .read-slots .ensures)
 
 pub read-pm-spec : {M : Type 1} → statement M

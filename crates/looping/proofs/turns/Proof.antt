@@ -18,18 +18,27 @@ abbrev Inv-loop : tie.InvT-loop
 Inv-loop keys₀ rows₀ tables pipes piece₀ out₀ handed₀ left₀ keys rows piece out handed left =
     TurnRoom keys rows (handed .session) tables piece out × (left ≤ left₀)
     × (length keys ≡ length keys₀) × (length rows ≡ length rows₀) × (length piece ≡ length piece₀) × (length out ≡ length out₀)
-    × ((keysᵉ rowsᵉ : List ℕ) (s : Session) (n : ℕ) → n + left ≡ 1 + left₀ → Reached keysᵉ rowsᵉ s handed₀ keys₀ rows₀ piece₀ out₀ 1 → Reached keysᵉ rowsᵉ s handed keys rows piece out n)
+    × ((keysᵉ rowsᵉ : List ℕ) (s : Session) (n : ℕ) → n + left ≡ 1 + left₀
+    → Reached keysᵉ rowsᵉ s handed₀ keys₀ rows₀ piece₀ out₀ 1 → Reached keysᵉ rowsᵉ s handed keys rows piece out n)
 
 abbrev μ-loop : tie.MeasureT-loop
 μ-loop keys₀ rows₀ tables pipes piece₀ out₀ handed₀ left₀ keys rows piece out handed left = left
+
+-- the first turn, once the lent slices are back, and where this began
+abbrev first-turn : tie.After-slice-known8 Inv-loop μ-loop → tie.After-turn Inv-loop μ-loop
+first-turn c = let rows-back = c .before .before .before .before in rows-back .before .before .before .before
+
+abbrev start : tie.After-turn Inv-loop μ-loop → tie.Start Inv-loop μ-loop
+start c = let lent = c .before .before .before .before in lent .before .before .before .before .before
 
 turn-requires : tie.Need-turn-requires Inv-loop μ-loop
 turn-requires c κs = search needs
 
 loop-holds : tie.Need-loop-holds Inv-loop μ-loop
 loop-holds c =
-    let first = c .before .before .before .before .before .before .before .before in (
-      still-room _ (first .turn .result) _ _ _ _ (first .before .before .before .before .before .before .before .before .before .pre) (first .turn .ensures .0) (first .turn .ensures .1 .0) (first .turn .ensures .1 .1),
+    let first = first-turn c in
+    let sizes = first .turn .ensures .1 in (
+      still-room (first .turn .result) (start first .pre) (first .turn .ensures .0) (sizes .0) (sizes .1),
       omega arith,
       refl,
       refl,
@@ -52,17 +61,21 @@ loop-less c = search needs
 
 loop-again : tie.Need-loop-again Inv-loop μ-loop
 loop-again c =
-    let next = c .before .before .before .before .before .before .before .before in
-    let on = next .before .before .before .before .before .before in
+    let rows-back = c .before .before .before .before in
+    let next = rows-back .before .before .before .before in
+    let lent = next .before .before .before .before in
+    let on = lent .before .before in
+    let goes = sym (on .before .goes-on .ensures) ∙ on .if1 .taken in
     let at = on .before .before .before in
-    let inv = at .loop .inv in (
-      still-room _ (next .turn2 .result) _ _ _ _ (inv .0) (next .turn2 .ensures .0) (next .turn2 .ensures .1 .0) (next .turn2 .ensures .1 .1),
+    let inv = at .loop .inv in
+    let sizes = next .turn2 .ensures .1 in (
+      still-room (next .turn2 .result) (inv .0) (next .turn2 .ensures .0) (sizes .0) (sizes .1),
       omega arith,
       search needs,
       search needs,
       search needs,
       search needs,
-      λ k r s n e reached. renumber (omega arith) (reach-next _ _ _ _ _ (inv .6 k r s (n - 1) (omega arith) reached) (sym (on .before .goes-on .ensures) ∙ on .if1 .taken) (next .turn2 .ensures .0)),
+      λ k r s n e reached. renumber (omega arith) (reach-next (inv .6 k r s (n - 1) (omega arith) reached) goes (next .turn2 .ensures .0)),
     )
 
 same-length : tie.Need-same-length Inv-loop μ-loop
@@ -80,8 +93,8 @@ same-length-4 c = search needs
 returns : tie.Need-returns Inv-loop μ-loop
 returns c =
     let at = c .before .before .before in
-    let first = at .before .before .before .before .before .before .before .before .before in
-    looped (at .loop .inv .6 _ _ _ (mostTurns - at .loop .left) (omega arith) (reach-first _ _ _ _ _ _ (first .turn .ensures .0)))
+    let first = first-turn (at .before) in
+    looped (at .loop .inv .6 _ _ _ (mostTurns - at .loop .left) (omega arith) (reach-first _ (first .turn .ensures .0)))
     (λ on. absurd (Bool.true≢false (sym (ap isOn on) ∙ sym (c .before .goes-on .ensures) ∙ c .if1 .left)))
 
 same-length-5 : tie.Need-same-length-5 Inv-loop μ-loop
@@ -99,8 +112,8 @@ same-length-8 c = search needs
 returns-2 : tie.Need-returns-2 Inv-loop μ-loop
 returns-2 c =
     let at = c .before in
-    let first = at .before .before .before .before .before .before .before .before .before in
-    looped (at .loop .inv .6 _ _ _ mostTurns (omega arith) (reach-first _ _ _ _ _ _ (first .turn .ensures .0))) (λ on. refl)
+    let first = first-turn (at .before) in
+    looped (at .loop .inv .6 _ _ _ mostTurns (omega arith) (reach-first _ (first .turn .ensures .0))) (λ on. refl)
 
 pub turns-spec : {M : Type 1} → statement M
 turns-spec =

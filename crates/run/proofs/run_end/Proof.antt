@@ -4,9 +4,12 @@ use borrow.Author.Needs.{needs}
 use Rattle.run.proofs.run_end.Statement.{statement}
 use Rattle.run.proofs.run_end.Tie as tie
 
+abbrev start : tie.After-struct-known → tie.Start
+start c = c .before .before .before .before .before
+
 returns : tie.Need-returns
 returns c =
-    let a = c .before .before .before .before .before .before .args in
+    let a = start (c .before) .args in
     end-none (a .keys .now) (a .rows .now) (a .session) (a .out .now) (c .if1 .taken)
 
 slice-aggregate-run-piece : tie.Need-slice-aggregate-run-piece
@@ -26,9 +29,10 @@ same-length-3 c = search needs
 
 returns-2 : tie.Need-returns-2
 returns-2 c =
-    let ran = c .before .before .before .before .before .before in
+    let rows-back = c .before .before in
+    let ran = rows-back .before .before .before .before in
     let at-else = ran .before .before .before .before .before in
-    let s = at-else .before .before .before .before .before .before in
+    let s = start (at-else .before) in
     let a = s .args in
     end-line (a .keys .now) (a .rows .now) (a .session) (a .out .now) (at-else .if1 .left) (s .pre .sound .room) (ran .run-piece .ensures)
 

@@ -49,9 +49,15 @@ Inv-loop keys₀ rows₀ tables piece out₀ scalars₀ partial₀ at₀ len₀ 
 abbrev μ-loop : tie.MeasureT-loop
 μ-loop keys₀ rows₀ tables piece out₀ scalars₀ partial₀ at₀ len₀ found₀ keys rows out scalars partial at len found = length piece - at
 
--- places on the way through a turn
+-- where this began, and places on the way through a turn
+abbrev began : tie.After-partial Inv-loop μ-loop → tie.Start Inv-loop μ-loop
+began c = let lent = c .before .before in lent .before .before .before .before
+
 abbrev start : tie.At-loop Inv-loop μ-loop → tie.Start Inv-loop μ-loop
-start a = a .before .before .before .before .before .before .before .before
+start a = began (a .before .before)
+
+abbrev called : tie.After-write-reply-arg Inv-loop μ-loop → tie.After-answer-line Inv-loop μ-loop
+called c = let rows-back = c .before .before .before in rows-back .before .before .before .before
 
 abbrev answered : tie.After-answer-line Inv-loop μ-loop → tie.In-loop Inv-loop μ-loop
 answered c = c .before .before .before
@@ -61,12 +67,12 @@ wrote c = c .before .before .before
 
 next-line-requires : tie.Need-next-line-requires Inv-loop μ-loop
 next-line-requires c κs =
-    let s = c .before .before .before .before .before .before in
+    let s = began c in
     (s .pre .tables-are, s .pre .sound .room, omega arith)
 
 loop-holds : tie.Need-loop-holds Inv-loop μ-loop
 loop-holds c =
-    let s = c .before .before .before .before .before .before .before in
+    let s = began (c .before) in
     (begin _ _ _ _ (s .pre .answers-fit), s .pre .sound .runs, s .pre .sound .room, s .pre .tables-are, c .next-line .ensures)
 
 answer-line-requires : tie.Need-answer-line-requires Inv-loop μ-loop
@@ -74,7 +80,7 @@ answer-line-requires c κs = c .before .before .before .loop .inv .1
 
 write-reply-requires : tie.Need-write-reply-requires Inv-loop μ-loop
 write-reply-requires c κs =
-    let turn = answered (c .before .before .before .before .before .before .before) in
+    let turn = answered (called c) in
     let l = turn .before .loop in
     (l .inv .3, fits (l .inv .0) (in-piece (l .inv .4) (turn .loop-test .taken)))
 
@@ -83,7 +89,7 @@ no-line-requires c κs = search needs
 
 next-line-requires-2 : tie.Need-next-line-requires-2 Inv-loop μ-loop
 next-line-requires-2 c κs =
-    let turn = answered (wrote c .before .before .before .before .before .before .before .before) in
+    let turn = answered (called (wrote c .before)) in
     let l = turn .before .loop in
     let n = l .inv .4 .behind (turn .loop-test .taken) in
     let p = in-piece (l .inv .4) (turn .loop-test .taken) in
@@ -91,7 +97,7 @@ next-line-requires-2 c κs =
 
 loop-less : tie.Need-loop-less Inv-loop μ-loop
 loop-less c =
-    let turn = answered (wrote (c .before) .before .before .before .before .before .before .before .before) in
+    let turn = answered (called (wrote (c .before) .before)) in
     let l = turn .before .loop in
     let n = l .inv .4 .behind (turn .loop-test .taken) in
     let p = in-piece (l .inv .4) (turn .loop-test .taken) in
@@ -101,13 +107,13 @@ loop-less c =
 loop-again : tie.Need-loop-again Inv-loop μ-loop
 loop-again c =
     let w = wrote (c .before) in
-    let called = w .before .before .before .before .before .before .before .before in
-    let turn = answered called in
+    let made = called (w .before) in
+    let turn = answered made in
     let l = turn .before .loop in
     let t = turn .loop-test .taken in
     let g = l .inv .0 in
-    let m = called .answer-line .ensures in (
-      turned g (in-piece (l .inv .4) t) (l .found .line) (l .inv .4 .says t) (called .answer-line .result .reply) _ (made-step (l .found .line) m)
+    let m = made .answer-line .ensures in (
+      turned g (in-piece (l .inv .4) t) (l .found .line) (l .inv .4 .says t) (made .answer-line .result .reply) _ (made-step (l .found .line) m)
           _ (c .before .no-line .ensures .0) _ (l .inv .4 .behind t) _ (w .write-reply .ensures .1) _ (w .write-reply .ensures .0),
       runs-on (l .found .line) (l .inv .1) m,
       c .before .no-line .ensures .1,
@@ -149,7 +155,8 @@ returns c =
       machine = sym (ap (λ (x : Fed). x .runner .machine) (stopped-there g none));
       line =
           c .extended .ensures .0
-          ∙ ap (λ (x : List ℕ). take keptLength (heldLine (l .partial) ++ x)) (take-all (length piece - l .at) (drop (l .at) piece) (omega (arith, length-drop (l .at) piece)))
+          ∙ ap (λ (x : List ℕ). take keptLength (heldLine (l .partial) ++ x))
+          (take-all (length piece - l .at) (drop (l .at) piece) (omega (arith, length-drop (l .at) piece)))
           ∙ sym (ap (λ (x : Fed). take keptLength (x .runner .line)) (stopped-there g none));
       stays-sound = record { runs = l .inv .1; room = c .extended .ensures .1 };
     }

@@ -26,7 +26,8 @@ slice-aggregate-serve-lines-4 c = search needs
 serve-lines-requires : tie.Need-serve-lines-requires
 serve-lines-requires c κs =
     let started = c .before .before .before .before .before in
-    new-room _ _ (started .new-session .ensures) (started .before .digit-tables .ensures) (slice-aggregate-serve-lines-3 (c .before)) (slice-aggregate-serve-lines-4 c) refl refl
+    new-room _ _ (started .new-session .ensures) (started .before .digit-tables .ensures)
+    (slice-aggregate-serve-lines-3 (c .before)) (slice-aggregate-serve-lines-4 c) refl refl
 
 returns : tie.Need-returns
 returns c = search needs

@@ -8,6 +8,10 @@ use borrow.Author.Needs.{needs}
 use Rattle.turning.proofs.turn.Statement.{statement}
 use Rattle.turning.proofs.turn.Tie as tie
 
+-- where what was read was run over
+abbrev at-run : tie.After-next → tie.After-run-piece
+at-run c = let rows-back = c .before .before .before in rows-back .before .before .before .before
+
 read-some-requires : tie.Need-read-some-requires
 read-some-requires c κs = search needs
 
@@ -32,7 +36,7 @@ returns c =
     let if-failed = c .before .before .before in
     let told = if-failed .before in
     let read = told .before .before .before in
-    let idle = idle-turn _ _ _ _ _ _ _ refl (read .read-some .ensures .0) in
+    let idle = idle-turn refl (read .read-some .ensures .0) in
     (rw (c .idle .ensures) (idle, rw (came told) at (if-failed .if1 .taken)), (read .read-some .ensures .1, refl))
 
 idle-requires-2 : tie.Need-idle-requires-2
@@ -46,7 +50,7 @@ returns-2 c =
     let if-none = c .before in
     let told = if-none .before .before in
     let read = told .before .before .before in
-    let idle = idle-turn _ _ _ _ _ _ _ refl (read .read-some .ensures .0) in
+    let idle = idle-turn refl (read .read-some .ensures .0) in
     let zero = is-zero (read .read-some .result .got) (rw (came told) at (if-none .before .if1 .left)) (if-none .if2 .taken) in
     (rw (c .idle2 .ensures) (idle, zero), (read .read-some .ensures .1, refl))
 
@@ -63,7 +67,7 @@ run-piece-requires : tie.Need-run-piece-requires
 run-piece-requires c κs = search needs
 
 give-requires : tie.Need-give-requires
-give-requires c κs = ran-within (c .before .before .before .before .before .before .before .before .before .run-piece .ensures)
+give-requires c κs = ran-within (at-run (c .before .before) .run-piece .ensures)
 
 same-length-3 : tie.Need-same-length-3
 same-length-3 c = search needs
@@ -73,7 +77,7 @@ same-length-4 c = search needs
 
 same-length-5 : tie.Need-same-length-5
 same-length-5 c =
-    let ran = c .before .before .before .before .before .before .before .before .before .before in
+    let ran = at-run (c .before .before .before) in
     let counted = ran .before .before .before .before .before in
     let told = counted .before .before .before .before in
     told .before .before .before .read-some .ensures .1
@@ -83,7 +87,7 @@ same-length-6 c = search needs
 
 returns-3 : tie.Need-returns-3
 returns-3 c =
-    let ran = c .before .before .before .before .before .before .before .before .before .before in
+    let ran = at-run (c .before .before .before) in
     let counted = ran .before .before .before .before .before in
     let some = counted .before .before in
     let told = some .before .before in

@@ -26,16 +26,21 @@ add-t6 c = search needs
 
 returns : tie.Need-returns
 returns c =
-    let s = c .before .before .before .before .before .before in
+    let pasted = c .before in
+    let measured = pasted .before .before in
+    let s = measured .before .before .before in
     let a = s .args in
-    let n = c .before .before .before .least .ensures in
+    let n = measured .least .ensures in
     let fits = s .pre .fits in
     let size = s .pre .bytes-long in (
-      ap (take (a .partial .len + c .before .before .before .least .result)) (c .before .paste .ensures)
+      ap (take (a .partial .len + measured .least .result)) (pasted .paste .ensures)
           ∙ ap (λ (k : ℕ). take (a .partial .len + k) (paste (a .partial .bytes) (a .partial .len) (a .part .now) k)) n
           ∙ kept-append (a .partial .bytes) (a .part .now) (a .partial .len) fits size,
       record {
-        bytes-long = ap length (c .before .paste .ensures) ∙ length-paste (a .partial .bytes) (a .partial .len) (a .part .now) (c .before .before .before .least .result) (omega arith) (omega arith) ∙ size;
+        bytes-long =
+            ap length (pasted .paste .ensures)
+            ∙ length-paste (a .partial .bytes) (a .partial .len) (a .part .now) (measured .least .result) (omega arith) (omega arith)
+            ∙ size;
         fits = omega arith;
       },
     )
