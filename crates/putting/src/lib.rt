@@ -72,10 +72,13 @@ pub fn put(
     rest: Rest,
     call: PutCall,
 ) -> Called
-    requires { ⌜ Sized (now keys) (now rows) × (length (now next) ≡ slots) × (whole (stands (now keys) (now rows) rest) ≡ true) ⌝ }
+    requires { ⌜ Sized (now keys) (now rows)
+        × (length (now next) ≡ slots)
+        × (whole (stands (now keys) (now rows) rest) ≡ true) ⌝ }
     ensures { λ r.
         let before = stands (now (keys .entry)) (now (rows .entry)) rest in
-        ⌜ Calls r (now (keys .entry)) (now (rows .entry)) rest (now (keys .exit)) (now (rows .exit)) (putWhole before (listsIn (now (rows .entry))) call) ⌝ }
+        let wanted = putWhole before (listsIn (now (rows .entry))) call in
+        ⌜ Calls r (now (keys .entry)) (now (rows .entry)) rest (now (keys .exit)) (now (rows .exit)) wanted ⌝ }
 {
     if !call.has_pic {
         return put_nothing(keys, next, rest, call);

@@ -8,14 +8,25 @@ use Rattle.picman.proofs.PutOnKeys.{on-nothing, on-high, on-unleased, on-marked
 use Rattle.putting.proofs.put.Statement.{statement}
 use Rattle.putting.proofs.put.Tie as tie
 
-has-pic : (c : tie.Else1) → c .before .before .before .before .before .args .call .«has_pic» ≡ true
+-- Behind the test for a picture.
+abbrev start : tie.Else1 → tie.Start
+start c = c .before .before .before .before .before
+
+has-pic : (c : tie.Else1) → start c .args .call .«has_pic» ≡ true
 has-pic c = not-false _ (c .if1 .left)
 
-leased : (c : tie.Else3) → keyPresent (c .before .before .before .before .before .before .before .before .before .args .rest .lease) ≡ true
+-- Behind the test for a lease.
+abbrev pictured : tie.Else3 → tie.Else1
+pictured c = c .before .before .before .before
+
+leased : (c : tie.Else3) → keyPresent (start (pictured c) .args .rest .lease) ≡ true
 leased c = sym (c .before .is-present .ensures) ∙ not-false _ (c .if3 .left)
 
 put-nothing-requires : tie.Need-put-nothing-requires
-put-nothing-requires c κs = let s = c .before .before .before .before .before .before .before in (s .pre .0 .slots-long, s .pre .1)
+put-nothing-requires c κs =
+    let tested = c .before .before in
+    let s = tested .before .before .before .before .before in
+    (s .pre .0 .slots-long, s .pre .1)
 
 same-length : tie.Need-same-length
 same-length c = search needs
@@ -25,17 +36,24 @@ same-length-2 c = search needs
 
 returns : tie.Need-returns
 returns c =
-    let s = c .before .before .before .before .before .before .before .before .before .before .before .before in
-    on-nothing (s .args .keys .now) (s .args .rows .now) (s .args .rest) (s .args .call) (s .pre .0) _ _ (not-true _ (c .before .before .before .before .before .before .before .if1 .taken))
-    (c .before .before .before .before .put-nothing .ensures (s .args .rows .now) (s .pre .0 .rows-long))
+    let called = c .before .before .before .before in
+    let tested = called .before .before .before in
+    let s = tested .before .before .before .before .before in
+    on-nothing (s .args .keys .now) (s .args .rows .now) (s .args .rest) (s .args .call) (s .pre .0) _ _
+    (not-true _ (tested .if1 .taken))
+    (called .put-nothing .ensures (s .args .rows .now) (s .pre .0 .rows-long))
 
 refuse-requires : tie.Need-refuse-requires
 refuse-requires c κs = search needs
 
 returns-2 : tie.Need-returns-2
 returns-2 c =
-    let s = c .before .before .before .before .before .before .before .before in
-    rw (c .refuse .ensures) (on-high (s .args .keys .now) (s .args .rows .now) (s .args .rest) (s .args .call) (s .pre .0) (has-pic (c .before .before .before)) (c .before .if2 .taken))
+    let with-pic = c .before .before .before in
+    let s = start with-pic in
+    rw (c .refuse .ensures)
+    (on-high (s .args .keys .now) (s .args .rows .now) (s .args .rest) (s .args .call) (s .pre .0)
+    (has-pic with-pic)
+    (c .before .if2 .taken))
 
 is-present-requires : tie.Need-is-present-requires
 is-present-requires c κs = search needs
@@ -45,15 +63,23 @@ refuse-requires-2 c κs = search needs
 
 returns-3 : tie.Need-returns-3
 returns-3 c =
-    let s = c .before .before .before .before .before .before .before .before .before .before in
+    let asked = c .before .before in
+    let with-pic = asked .before .before .before in
+    let s = start with-pic in
     rw (c .refuse2 .ensures)
-    (on-unleased (s .args .keys .now) (s .args .rows .now) (s .args .rest) (s .args .call) (s .pre .0) (has-pic (c .before .before .before .before .before)) (c .before .before .before .if2 .left) (sym (c .before .before .is-present .ensures) ∙ not-true _ (c .before .if3 .taken)))
+    (on-unleased (s .args .keys .now) (s .args .rows .now) (s .args .rest) (s .args .call) (s .pre .0)
+    (has-pic with-pic)
+    (asked .before .if2 .left)
+    (sym (asked .is-present .ensures) ∙ not-true _ (c .before .if3 .taken)))
 
 marks-anew-requires : tie.Need-marks-anew-requires
 marks-anew-requires c κs = search needs
 
 place-unmarked-requires : tie.Need-place-unmarked-requires
-place-unmarked-requires c κs = let s = c .before .before .before .before .before .before .before .before .before .before .before .before .before in (s .pre .0, s .pre .2, leased (c .before .before .before .before))
+place-unmarked-requires c κs =
+    let with-lease = c .before .before .before .before in
+    let s = start (pictured with-lease) in
+    (s .pre .0, s .pre .2, leased with-lease)
 
 same-length-3 : tie.Need-same-length-3
 same-length-3 c = search needs
@@ -63,23 +89,35 @@ same-length-4 c = search needs
 
 returns-4 : tie.Need-returns-4
 returns-4 c =
-    let s = c .before .before .before .before .before .before .before .before .before .before .before .before .before .before .before .before .before .before in
+    let called = c .before .before .before .before in
+    let tested = called .before .before .before in
+    let with-lease = tested .before .before in
+    let with-pic = pictured with-lease in
+    let s = start with-pic in
     let pm = stands (s .args .keys .now) (s .args .rows .now) (s .args .rest) in
-    on-marked (s .args .keys .now) (s .args .rows .now) (s .args .rest) (s .args .call) (s .pre .0) (has-pic (c .before .before .before .before .before .before .before .before .before .before .before .before .before)) (c .before .before .before .before .before .before .before .before .before .before .before .if2 .left) _ pm _ _ (leased (c .before .before .before .before .before .before .before .before .before))
-    (sym (not-marked (s .args .call) pm (sym (c .before .before .before .before .before .before .before .before .marks-anew .ensures) ∙ not-true _ (c .before .before .before .before .before .before .before .if4 .taken))))
-    (c .before .before .before .before .place-unmarked .ensures)
+    on-marked (s .args .keys .now) (s .args .rows .now) (s .args .rest) (s .args .call) (s .pre .0)
+    (has-pic with-pic)
+    (with-lease .before .before .if2 .left) _ pm _ _
+    (leased with-lease)
+    (sym (not-marked (s .args .call) pm (sym (tested .before .marks-anew .ensures) ∙ not-true _ (tested .if4 .taken))))
+    (called .place-unmarked .ensures)
 
 remark-requires : tie.Need-remark-requires
-remark-requires c κs = let s = c .before .before .before .before .before .before .before .before .before .before .before .before .before in (s .pre .0 .slots-long, s .pre .1, sym (c .before .before .before .marks-anew .ensures) ∙ not-false _ (c .before .before .if4 .left))
+remark-requires c κs =
+    let asked = c .before .before .before in
+    let s = start (pictured (asked .before)) in
+    (s .pre .0 .slots-long, s .pre .1, sym (asked .marks-anew .ensures) ∙ not-false _ (c .before .before .if4 .left))
 
 place-marked-requires : tie.Need-place-marked-requires
 place-marked-requires c κs =
-    let s = c .before .before .before .before .before .before .before .before .before .before .before .before .before .before .before .before .before .before .before in
-    let m = c .before .before .before .before .before .remark .ensures in (
+    let remarked = c .before .before .before .before .before in
+    let with-lease = remarked .before .before .before .before .before in
+    let s = start (pictured with-lease) in
+    let m = remarked .remark .ensures in (
       s .pre .0,
       m .remarks-long,
       marked-whole (s .args .call) (s .args .keys .now) (s .args .rows .now) _ (s .args .rest) _ (s .pre .0) (s .pre .2) m,
-      leased (c .before .before .before .before .before .before .before .before .before .before),
+      leased with-lease,
     )
 
 same-length-5 : tie.Need-same-length-5
@@ -93,10 +131,18 @@ same-length-7 c = search needs
 
 returns-5 : tie.Need-returns-5
 returns-5 c =
-    let s = c .before .before .before .before .before .before .before .before .before .before .before .before .before .before .before .before .before .before .before .before .before .before .before .before in
-    on-marked (s .args .keys .now) (s .args .rows .now) (s .args .rest) (s .args .call) (s .pre .0) (has-pic (c .before .before .before .before .before .before .before .before .before .before .before .before .before .before .before .before .before .before .before)) (c .before .before .before .before .before .before .before .before .before .before .before .before .before .before .before .before .before .if2 .left) _ _ _ _ (leased (c .before .before .before .before .before .before .before .before .before .before .before .before .before .before .before))
-    (c .before .before .before .before .before .before .before .before .before .before .remark .ensures .remarks (s .args .rows .now) (s .args .rest))
-    (c .before .before .before .before .place-marked .ensures)
+    let placed = c .before .before .before .before in
+    let to-place = placed .before in
+    let remarked = to-place .before .before .before .before .before in
+    let with-lease = remarked .before .before .before .before .before in
+    let with-pic = pictured with-lease in
+    let s = start with-pic in
+    on-marked (s .args .keys .now) (s .args .rows .now) (s .args .rest) (s .args .call) (s .pre .0)
+    (has-pic with-pic)
+    (with-lease .before .before .if2 .left) _ _ _ _
+    (leased with-lease)
+    (remarked .remark .ensures .remarks (s .args .rows .now) (s .args .rest))
+    (placed .place-marked .ensures)
 
 pub put-spec : {M : Type 1} → statement M
 put-spec =

@@ -8,37 +8,61 @@ use Rattle.picman.proofs.PutOnKeys.{not-marked}
 use Rattle.putting.proofs.put_nothing.Statement.{statement}
 use Rattle.putting.proofs.put_nothing.Tie as tie
 
+-- Behind the remarking.
+abbrev start : tie.After-remark → tie.Start
+start c =
+    let tested = c .before .before .before in
+    tested .before .before .before .before
+
 marks-anew-requires : tie.Need-marks-anew-requires
 marks-anew-requires c κs = search needs
 
 returns : tie.Need-returns
 returns c = λ rows long.
     let s = c .before .before .before .before in
+    let unmarked = sym (c .before .marks-anew .ensures) ∙ not-true _ (c .if1 .taken) in
     record {
       answers = refl;
-      stands-for = sym (not-marked (s .args .call) (stands (s .args .keys .now) rows (s .args .rest)) (sym (c .before .marks-anew .ensures) ∙ not-true _ (c .if1 .taken)));
+      stands-for = sym (not-marked (s .args .call) (stands (s .args .keys .now) rows (s .args .rest)) unmarked);
       lists-stay = refl;
       still-sized = record { slots-long = s .pre .0; rows-long = long };
     }
 
 remark-requires : tie.Need-remark-requires
-remark-requires c κs = let s = c .before .before .before .before .before .before in (s .pre .0, s .pre .1, sym (c .before .before .before .marks-anew .ensures) ∙ not-false _ (c .before .before .if1 .left))
+remark-requires c κs =
+    let asked = c .before .before .before in
+    let s = asked .before .before .before in
+    (s .pre .0, s .pre .1, sym (asked .marks-anew .ensures) ∙ not-false _ (c .before .before .if1 .left))
 
 copy-keys-requires : tie.Need-copy-keys-requires
-copy-keys-requires c κs = (c .before .before .before .before .remark .ensures .remarks-long, c .before .before .before .before .before .before .before .before .before .before .before .pre .0)
+copy-keys-requires c κs =
+    let remarked = c .before .before .before .before in
+    (remarked .remark .ensures .remarks-long, start remarked .pre .0)
 
 same-length : tie.Need-same-length
-same-length c = ap length (c .before .before .copy-keys .ensures) ∙ c .before .before .before .before .before .before .before .remark .ensures .remarks-long ∙ sym (c .before .before .before .before .before .before .before .before .before .before .before .before .before .before .pre .0)
+same-length c =
+    let copied = c .before .before in
+    let remarked = copied .before .before .before .before .before in
+    ap length (copied .copy-keys .ensures) ∙ remarked .remark .ensures .remarks-long ∙ sym (start remarked .pre .0)
 
 same-length-2 : tie.Need-same-length-2
-same-length-2 c = c .before .before .before .before .before .before .before .remark .ensures .remarks-long ∙ sym (c .before .before .before .before .before .before .before .before .before .before .before .before .before .before .pre .1)
+same-length-2 c =
+    let copied = c .before .before in
+    let remarked = copied .before .before .before .before .before in
+    remarked .remark .ensures .remarks-long ∙ sym (start remarked .pre .1)
 
 returns-2 : tie.Need-returns-2
 returns-2 c = λ rows long.
-    let s = c .before .before .before .before .before .before .before .before .before .before .before .before .before .before in
-    let m = c .before .before .before .before .before .before .before .remark .ensures in
-    rw (c .before .before .copy-keys .ensures)
-    (record { answers = refl; stands-for = m .remarks rows (s .args .rest); lists-stay = refl; still-sized = record { slots-long = m .remarks-long; rows-long = long } })
+    let copied = c .before .before in
+    let remarked = copied .before .before .before .before .before in
+    let m = remarked .remark .ensures in
+    rw (copied .copy-keys .ensures)
+    (record {
+      answers = refl;
+      stands-for = m .remarks rows (start remarked .args .rest);
+      lists-stay = refl;
+      still-sized = record { slots-long = m .remarks-long; rows-long = long };
+    })
 
 pub put-nothing-spec : {M : Type 1} → statement M
 put-nothing-spec =

@@ -11,24 +11,38 @@ picman-flush-pb-requires c κs = search needs
 
 same-length : tie.Need-same-length
 same-length c =
-    let s = c .before .before .before .before .before .before .before in
-    ap length (c .before .before .picman-flush-pb .ensures) ∙ remarked-idr (s .args .call) (s .args .keys .now) (s .pre .0) (c .before .before .before .before .if1 .taken) .remarks-long ∙ sym (s .pre .1)
+    let called = c .before .before in
+    let tested = called .before .before in
+    let s = tested .before .before .before in
+    ap length (called .picman-flush-pb .ensures)
+    ∙ remarked-idr (s .args .call) (s .args .keys .now) (s .pre .0) (tested .if1 .taken) .remarks-long
+    ∙ sym (s .pre .1)
 
 returns : tie.Need-returns
 returns c =
-    let s = c .before .before .before .before .before .before .before in
-    rw (c .before .before .picman-flush-pb .ensures) (remarked-idr (s .args .call) (s .args .keys .now) (s .pre .0) (c .before .before .before .before .if1 .taken))
+    let called = c .before .before in
+    let tested = called .before .before in
+    let s = tested .before .before .before in
+    rw (called .picman-flush-pb .ensures) (remarked-idr (s .args .call) (s .args .keys .now) (s .pre .0) (tested .if1 .taken))
 
 pic-marking-no-rpl-requires : tie.Need-pic-marking-no-rpl-requires
 pic-marking-no-rpl-requires c κs = search needs
 
 same-length-2 : tie.Need-same-length-2
-same-length-2 c = c .before .before .pic-marking-no-rpl .ensures .marks-long ∙ sym (c .before .before .before .before .before .before .before .pre .1)
+same-length-2 c =
+    let called = c .before .before in
+    let s = called .before .before .before .before .before in
+    called .pic-marking-no-rpl .ensures .marks-long ∙ sym (s .pre .1)
 
 returns-2 : tie.Need-returns-2
 returns-2 c =
-    let s = c .before .before .before .before .before .before .before in
-    remarked-mark (s .args .call) (s .args .keys .now) (s .pre .0) _ _ (c .before .before .before .before .if1 .left) (s .pre .2) (c .before .before .pic-marking-no-rpl .ensures)
+    let called = c .before .before in
+    let tested = called .before .before in
+    let s = tested .before .before .before in
+    remarked-mark (s .args .call) (s .args .keys .now) (s .pre .0) _ _
+    (tested .if1 .left)
+    (s .pre .2)
+    (called .pic-marking-no-rpl .ensures)
 
 pub remark-spec : {M : Type 1} → statement M
 remark-spec =
