@@ -27,7 +27,10 @@ use store::lowest_idle;
 
 // The picture at `pos` is taken out of the store and leased, as it is.
 fn reuse_pic(keys: &mut [u64], rest: Rest, pos: usize) -> Called
-    requires { ⌜ (length (now keys) ≡ slots) × (pos < slots) × (0 < rest .«cur_pb_size») × (keyNumber (getD (now keys) pos 0) ≤ highestPoc) ⌝ }
+    requires { ⌜ (length (now keys) ≡ slots)
+        × (pos < slots)
+        × (0 < rest .«cur_pb_size»)
+        × (keyNumber (getD (now keys) pos 0) ≤ highestPoc) ⌝ }
     ensures { λ r. ⌜ (r ≡ keyReused (now (keys .entry)) rest pos) × (now (keys .exit) ≡ removeAt 0 pos (now (keys .entry))) ⌝ }
 {
     let k = keys[pos];
@@ -46,7 +49,8 @@ fn lease_new_pic(keys: &[u64], rows: &mut [u32], rest: Rest) -> Called
     requires { ⌜ Sized (now keys) (now rows) × (keyFree (now keys) < slots) ⌝ }
     ensures { λ r.
         let free = keyFree (now (keys .entry)) in
-        ⌜ (r ≡ keyLeased free rest) × (now (rows .exit) ≡ paste (now (rows .entry)) (rowLength * free) (replicate rowLength 0) rowLength) ⌝ }
+        let cleared = paste (now (rows .entry)) (rowLength * free) (replicate rowLength 0) rowLength in
+        ⌜ (r ≡ keyLeased free rest) × (now (rows .exit) ≡ cleared) ⌝ }
 {
     let buf = free_buffer(keys);
     clear_row(rows, buf);

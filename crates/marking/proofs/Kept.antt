@@ -109,7 +109,8 @@ module _ (xs : List Slot) (e : length xs ≡ slots) where
   pub slide-reordered : Reordered (unmarkFirst (excess xs) xs) (slide xs)
   unfolding slide
   slide-reordered =
-      walk-reordered (noteFirst (excess xs) xs) 0 (unmarkFirst (excess xs) xs) (kept-length (unmark-kept (excess xs) xs) ∙ e) (omega (arith, notes-length (excess xs) xs))
+      walk-reordered (noteFirst (excess xs) xs) 0 (unmarkFirst (excess xs) xs) (kept-length (unmark-kept (excess xs) xs) ∙ e)
+      (omega (arith, notes-length (excess xs) xs))
 
   pub slide-kept : Kept xs (slide xs)
   slide-kept = kept-trans (unmark-kept (excess xs) xs) (kept-reordered _ _ slide-reordered)

@@ -41,7 +41,8 @@ unmark-count (suc n) (s ∷ ss) h = pick (isMarked s) refl (unmark-count n ss) (
     pick : (b : Bool) → isMarked s ≡ b → (n ≤ countIf isMarked ss → countIf isMarked (unmarkFirst n ss) + n ≡ countIf isMarked ss)
         → (suc n ≤ countIf isMarked ss → countIf isMarked (unmarkFirst (suc n) ss) + suc n ≡ countIf isMarked ss)
         → suc n ≤ cond b (suc (countIf isMarked ss)) (countIf isMarked ss)
-        → countIf isMarked (cond b (unmarked s ∷ unmarkFirst n ss) (s ∷ unmarkFirst (suc n) ss)) + suc n ≡ cond b (suc (countIf isMarked ss)) (countIf isMarked ss)
+        → countIf isMarked (cond b (unmarked s ∷ unmarkFirst n ss) (s ∷ unmarkFirst (suc n) ss)) + suc n
+        ≡ cond b (suc (countIf isMarked ss)) (countIf isMarked ss)
     pick true e k l h = let i = k (omega arith) in omega (arith, count-not isMarked (unmarked s) (unmarkFirst n ss) (unmarked-not s))
     pick false e k l h = let i = l (omega arith) in omega (arith, count-not isMarked s (unmarkFirst (suc n) ss) e)
 
@@ -70,7 +71,8 @@ slide-none xs h = let z : excess xs ≡ 0 = omega arith in rw (z, unmark-none xs
 -- ---- which are marked
 
 -- What holds of each slot that is not picked, in its place, and of each unmarked slot, holds of each slot after the sweep.
-module _ (picks : ℕ → Slot → Bool) (q : Slot → Bool) (kept : (i : ℕ) (s : Slot) → picks i s ≡ false → q s ≡ true) (gone : (s : Slot) → q (unmarked s) ≡ true) where
+module _ (picks : ℕ → Slot → Bool) (q : Slot → Bool) (kept : (i : ℕ) (s : Slot) → picks i s ≡ false → q s ≡ true)
+    (gone : (s : Slot) → q (unmarked s) ≡ true) where
   front-all : (i : ℕ) (xs : List Slot) → allOf q (selectAt (others picks) i xs) ≡ true
   unfolding selectAt allOf
   front-all i [] = refl

@@ -96,7 +96,8 @@ sweep-picks {test} {keys} {picks} long p =
 
 -- ---- the sliding limit
 
-module _ (rows : List ℕ) (n : ℕ) (start keys : List ℕ) (notes : List Bool) (left i : ℕ) (h : i < slots) (long₀ : length start ≡ slots) (long : length keys ≡ slots)
+module _ (rows : List ℕ) (n : ℕ) (start keys : List ℕ) (notes : List Bool) (left i : ℕ) (h : i < slots)
+    (long₀ : length start ≡ slots) (long : length keys ≡ slots)
     (w : Noted n (map (slotAt rows) start) (map (slotAt rows) keys) notes left i) where
   at : getD (map (slotAt rows) keys) i noSlot ≡ slotAt rows (getD keys i 0)
   at = map-at (slotAt rows) keys i 0 noSlot (omega arith)
@@ -107,13 +108,14 @@ module _ (rows : List ℕ) (n : ℕ) (start keys : List ℕ) (notes : List Bool)
   pub key-yes : keyMarked (getD keys i 0) ≡ true → 0 < left
       → Noted n (map (slotAt rows) start) (map (slotAt rows) (set keys i (keyUnmarked (getD keys i 0)))) (set notes i true) (left - 1) (i + 1)
   key-yes e l =
-      let same : map (slotAt rows) (set keys i (keyUnmarked (getD keys i 0))) ≡ set (map (slotAt rows) keys) i (unmarked (getD (map (slotAt rows) keys) i noSlot)) =
+      let same : map (slotAt rows) (set keys i (keyUnmarked (getD keys i 0)))
+      ≡ set (map (slotAt rows) keys) i (unmarked (getD (map (slotAt rows) keys) i noSlot)) =
       map-set (slotAt rows) keys i (keyUnmarked (getD keys i 0))
       ∙ ap (set (map (slotAt rows) keys) i) (slot-unmarked rows (getD keys i 0) ∙ ap unmarked (sym at)) in
       rw same (noted-yes n (map (slotAt rows) start) (map (slotAt rows) keys) notes left i inside w (ap isMarked at ∙ e) l)
 
   pub key-no : (ltb 0 left && keyMarked (getD keys i 0)) ≡ false → Noted n (map (slotAt rows) start) (map (slotAt rows) keys) (set notes i false) left (i + 1)
-  key-no e = noted-no n (map (slotAt rows) start) (map (slotAt rows) keys) notes left i inside w (ap (λ (s : Slot). ltb 0 left && isMarked s) at ∙ e)
+  key-no e = noted-no n (map (slotAt rows) start) (map (slotAt rows) keys) notes left i inside w (rw (at) e)
 
 pub moved-long : (i : ℕ) (keys : List ℕ) → i < slots → length keys ≡ slots → length (moveTo 0 i lastSlot keys) ≡ slots
 moved-long i keys h long =
@@ -179,8 +181,5 @@ module _ (gap : ℕ) (keys : List ℕ) (picks : List Bool) (long : length keys �
       slid rows =
           let n : ℕ = countIf keyMarked after-sweep - mostMarked in
           let before : List Slot = map (slotAt rows) after-sweep in
-          let e : n ≡ excess before = ap (λ (m : ℕ). m - mostMarked) (sym (same-count rows after-sweep)) in
-          k .walks-slots rows
-          ∙ ap (lastWalk notes 0) (u .unmarks-slots rows)
-          ∙ ap (λ (ns : List Bool). lastWalk ns 0 (unmarkFirst n before)) (u .notes-slots rows)
-          ∙ ap (λ (m : ℕ). lastWalk (noteFirst m before) 0 (unmarkFirst m before)) e
+          let e : n ≡ excess before = rw (same-count rows after-sweep) in
+          rw (k .walks-slots rows, u .unmarks-slots rows, u .notes-slots rows, e)

@@ -79,12 +79,15 @@ pub fn place_marked(
     count: u8,
     call: PutCall,
 ) -> Called
-    requires { ⌜ Sized (now keys) (now rows) × (length (now next) ≡ slots) × (whole (stands (now next) (now rows) (withRefs rest count)) ≡ true)
+    requires { ⌜ Sized (now keys) (now rows)
+        × (length (now next) ≡ slots)
+        × (whole (stands (now next) (now rows) (withRefs rest count)) ≡ true)
         × (keyPresent (rest .lease) ≡ true) ⌝ }
     ensures { λ r.
         let before = stands (now (keys .entry)) (now (rows .entry)) rest in
         let marked = stands (now (next .entry)) (now (rows .entry)) (withRefs rest count) in
-        ⌜ Calls r (now (keys .entry)) (now (rows .entry)) rest (now (keys .exit)) (now (rows .exit)) (place before marked (listsIn (now (rows .entry))) call) ⌝ }
+        let wanted = place before marked (listsIn (now (rows .entry))) call in
+        ⌜ Calls r (now (keys .entry)) (now (rows .entry)) rest (now (keys .exit)) (now (rows .exit)) wanted ⌝ }
 {
     let pos = place_for(next, count, call.ref_pic);
     if SLOTS <= pos {
@@ -98,10 +101,13 @@ pub fn place_marked(
 
 // The same where nothing was marked anew.
 pub fn place_unmarked(keys: &mut [u64], rows: &mut [u32], rest: Rest, call: PutCall) -> Called
-    requires { ⌜ Sized (now keys) (now rows) × (whole (stands (now keys) (now rows) rest) ≡ true) × (keyPresent (rest .lease) ≡ true) ⌝ }
+    requires { ⌜ Sized (now keys) (now rows)
+        × (whole (stands (now keys) (now rows) rest) ≡ true)
+        × (keyPresent (rest .lease) ≡ true) ⌝ }
     ensures { λ r.
         let before = stands (now (keys .entry)) (now (rows .entry)) rest in
-        ⌜ Calls r (now (keys .entry)) (now (rows .entry)) rest (now (keys .exit)) (now (rows .exit)) (place before before (listsIn (now (rows .entry))) call) ⌝ }
+        let wanted = place before before (listsIn (now (rows .entry))) call in
+        ⌜ Calls r (now (keys .entry)) (now (rows .entry)) rest (now (keys .exit)) (now (rows .exit)) wanted ⌝ }
 {
     let pos = place_for(keys, rest.cur_num_ref_pics, call.ref_pic);
     if pos < SLOTS {

@@ -26,13 +26,20 @@ cast-t11 c = search needs
 
 same-length : tie.Need-same-length
 same-length c =
-    let s = c .before .before .before .before .before .before .before in
-    let e = c .before .before .before .before .free-buffer .ensures in
+    let at-clear-row = c .before .before in
+    let at-free-buffer = at-clear-row .before .before in
+    let s = at-free-buffer .before .before .before in
+    let e = at-free-buffer .free-buffer .ensures in
     let long = s .pre .0 .rows-long in
-    ap length (c .before .before .clear-row .ensures) ∙ length-paste (s .args .rows .now) (rowLength * c .before .before .before .before .free-buffer .result) (replicate rowLength 0) rowLength (omega arith) (omega arith)
+    ap length (at-clear-row .clear-row .ensures)
+    ∙ length-paste (s .args .rows .now) (rowLength * at-free-buffer .free-buffer .result) (replicate rowLength 0) rowLength
+    (omega arith) (omega arith)
 
 returns : tie.Need-returns
-returns c = (rw (c .before .before .before .before .free-buffer .ensures), rw (← c .before .before .before .before .free-buffer .ensures) (c .before .before .clear-row .ensures))
+returns c = (
+  rw (c .before .before .before .before .free-buffer .ensures),
+  rw (← c .before .before .before .before .free-buffer .ensures) (c .before .before .clear-row .ensures),
+)
 
 pub lease-new-pic-spec : {M : Type 1} → statement M
 lease-new-pic-spec =

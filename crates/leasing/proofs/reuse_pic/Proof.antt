@@ -26,7 +26,10 @@ number-of-requires : tie.Need-number-of-requires
 number-of-requires c κs = search needs
 
 same-length : tie.Need-same-length
-same-length c = let s = c .before .before .before .before .before .before .before .before .before in ap length (c .before .before .before .before .before .remove-key .ensures) ∙ remove-length 0 (s .args .pos) (s .args .keys .now) (omega arith)
+same-length c =
+    let at-remove-key = c .before .before .before .before .before in
+    let s = at-remove-key .before .before .before .before in
+    ap length (at-remove-key .remove-key .ensures) ∙ remove-length 0 (s .args .pos) (s .args .keys .now) (omega arith)
 
 returns : tie.Need-returns
 returns c = (rw (c .before .buffer-byte .ensures, c .number-of .ensures), c .before .before .before .before .before .remove-key .ensures)

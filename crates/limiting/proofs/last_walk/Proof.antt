@@ -13,7 +13,9 @@ use Rattle.limiting.proofs.last_walk.Statement.{statement}
 use Rattle.limiting.proofs.last_walk.Tie as tie
 
 abbrev Inv-loop : tie.InvT-loop
-Inv-loop keys₀ notes i₀ keys i = (i ≤ 27) × (length keys ≡ 27) × (length notes ≡ 27) × ((rows : List ℕ) → lastWalk (drop i notes) i (map (slotAt rows) keys) ≡ lastWalk notes 0 (map (slotAt rows) keys₀))
+Inv-loop keys₀ notes i₀ keys i =
+    (i ≤ 27) × (length keys ≡ 27) × (length notes ≡ 27)
+    × ((rows : List ℕ) → lastWalk (drop i notes) i (map (slotAt rows) keys) ≡ lastWalk notes 0 (map (slotAt rows) keys₀))
 
 abbrev μ-loop : tie.MeasureT-loop
 μ-loop keys₀ notes i₀ keys i = 27 - i
@@ -35,12 +37,18 @@ loop-less c = search needs
 
 loop-again : tie.Need-loop-again Inv-loop μ-loop
 loop-again c =
-    let l = c .before .before .before .before .before .before .before .loop in
-    let a = c .before .before .before .before .before .before .before .before .before .args in (
+    let at-move = c .before .before in
+    let tested = at-move .before .before in
+    let at-loop = tested .before .before .before in
+    let start = at-loop .before .before in
+    let l = at-loop .loop in
+    let a = start .args in (
       omega arith,
-      ap length (c .before .before .move-last .ensures) ∙ moved-long (l .i) (l .keys) (omega arith) (l .inv .1),
+      ap length (at-move .move-last .ensures) ∙ moved-long (l .i) (l .keys) (omega arith) (l .inv .1),
       l .inv .2,
-      λ rows. rw (c .before .before .move-last .ensures) (walk-yes rows (a .notes .now) (l .keys) (l .i) (omega arith) (l .inv .1) (l .inv .2) (c .before .before .before .before .if1 .taken)) ∙ l .inv .3 rows,
+      λ rows.
+          rw (at-move .move-last .ensures) (walk-yes rows (a .notes .now) (l .keys) (l .i) (omega arith) (l .inv .1) (l .inv .2) (tested .if1 .taken))
+          ∙ l .inv .3 rows,
     )
 
 add-i-2 : tie.Need-add-i-2 Inv-loop μ-loop
@@ -52,8 +60,12 @@ loop-less-2 c = search needs
 loop-again-2 : tie.Need-loop-again-2 Inv-loop μ-loop
 loop-again-2 c =
     let l = c .before .before .before .loop in
-    let a = c .before .before .before .before .before .args in
-    (omega arith, l .inv .1, l .inv .2, λ rows. walk-no rows (a .notes .now) (l .keys) (l .i) (omega arith) (l .inv .1) (l .inv .2) (c .if1 .left) ∙ l .inv .3 rows)
+    let a = c .before .before .before .before .before .args in (
+      omega arith,
+      l .inv .1,
+      l .inv .2,
+      λ rows. walk-no rows (a .notes .now) (l .keys) (l .i) (omega arith) (l .inv .1) (l .inv .2) (c .if1 .left) ∙ l .inv .3 rows,
+    )
 
 same-length : tie.Need-same-length Inv-loop μ-loop
 same-length c = search needs

@@ -16,7 +16,9 @@ use Rattle.limiting.proofs.unmark_first.Statement.{statement}
 use Rattle.limiting.proofs.unmark_first.Tie as tie
 
 abbrev Inv-loop : tie.InvT-loop
-Inv-loop keys₀ n notes₀ left₀ i₀ keys notes left i = (i ≤ 27) × (length keys₀ ≡ 27) × (length keys ≡ 27) × (length notes ≡ 27) × ((rows : List ℕ) → Noted n (map (slotAt rows) keys₀) (map (slotAt rows) keys) notes left i)
+Inv-loop keys₀ n notes₀ left₀ i₀ keys notes left i =
+    (i ≤ 27) × (length keys₀ ≡ 27) × (length keys ≡ 27) × (length notes ≡ 27)
+    × ((rows : List ℕ) → Noted n (map (slotAt rows) keys₀) (map (slotAt rows) keys) notes left i)
 
 abbrev μ-loop : tie.MeasureT-loop
 μ-loop keys₀ n notes₀ left₀ i₀ keys notes left i = 27 - i
@@ -26,7 +28,8 @@ some-left : (c : tie.After-unmarked Inv-loop μ-loop) → 0 < c .before .before 
 some-left c = ltb-true 0 _ (and-left _ (c .before .before .is-marked .result) (c .before .if1 .taken))
 
 done : (c : tie.After-loop Inv-loop μ-loop) (rows : List ℕ)
-    → (map (slotAt rows) (c .before .loop .keys) ≡ unmarkFirst (c .before .before .before .args .n) (map (slotAt rows) (c .before .before .before .args .keys .now)))
+    → (map (slotAt rows) (c .before .loop .keys) ≡ unmarkFirst (c .before .before .before .args .n)
+    (map (slotAt rows) (c .before .before .before .args .keys .now)))
     × (c .before .loop .notes ≡ noteFirst (c .before .before .before .args .n) (map (slotAt rows) (c .before .before .before .args .keys .now)))
 done c rows =
     let l = c .before .loop in
@@ -36,8 +39,15 @@ done c rows =
 
 loop-holds : tie.Need-loop-holds Inv-loop μ-loop
 loop-holds c =
-    let a = c .before .args in
-    (omega arith, c .before .pre .0, c .before .pre .0, c .before .pre .1, λ rows. noted-start (a .n) (map (slotAt rows) (a .keys .now)) (a .notes .now) (c .before .pre .1 ∙ sym (length-map (a .keys .now) (slotAt rows) ∙ c .before .pre .0)))
+    let a = c .before .args in (
+      omega arith,
+      c .before .pre .0,
+      c .before .pre .0,
+      c .before .pre .1,
+      λ rows.
+          noted-start (a .n) (map (slotAt rows) (a .keys .now)) (a .notes .now)
+          (c .before .pre .1 ∙ sym (length-map (a .keys .now) (slotAt rows) ∙ c .before .pre .0)),
+    )
 
 mul-k : tie.Need-mul-k Inv-loop μ-loop
 mul-k c = search needs
@@ -71,14 +81,20 @@ loop-less c = search needs
 
 loop-again : tie.Need-loop-again Inv-loop μ-loop
 loop-again c =
-    let l = c .before .before .before .before .before .loop in
-    let a = c .before .before .before .before .before .before .before .args in
-    let test = sym (c .before .before .is-marked .ensures) ∙ and-right (ltb 0 (l .left)) _ (c .before .if1 .taken) in (
+    let at-is-marked = c .before .before in
+    let at-loop = at-is-marked .before .before .before in
+    let start = at-loop .before .before in
+    let l = at-loop .loop in
+    let a = start .args in
+    let test = sym (at-is-marked .is-marked .ensures) ∙ and-right (ltb 0 (l .left)) _ (c .before .if1 .taken) in (
       omega arith,
       l .inv .1,
       simp length-set (l .inv .2),
       simp length-set (l .inv .3),
-      λ rows. rw (c .unmarked .ensures) (key-yes rows (a .n) (a .keys .now) (l .keys) (l .notes) (l .left) (l .i) (omega arith) (l .inv .1) (l .inv .2) (l .inv .4 rows) test (some-left c)),
+      λ rows.
+          rw (c .unmarked .ensures)
+          (key-yes rows (a .n) (a .keys .now) (l .keys) (l .notes) (l .left) (l .i) (omega arith) (l .inv .1) (l .inv .2)
+          (l .inv .4 rows) test (some-left c)),
     )
 
 element-write-notes-2 : tie.Need-element-write-notes-2 Inv-loop μ-loop
@@ -92,8 +108,10 @@ loop-less-2 c = search needs
 
 loop-again-2 : tie.Need-loop-again-2 Inv-loop μ-loop
 loop-again-2 c =
-    let l = c .before .before .before .before .loop in
-    let a = c .before .before .before .before .before .before .args in
+    let at-loop = c .before .before .before .before in
+    let start = at-loop .before .before in
+    let l = at-loop .loop in
+    let a = start .args in
     let test = rw (c .before .is-marked .ensures) at (c .if1 .left) in (
       omega arith,
       l .inv .1,

@@ -43,9 +43,15 @@ loop-less c = search needs
 
 loop-again : tie.Need-loop-again Inv-loop μ-loop
 loop-again c =
-    let l = c .before .before .before .loop in
-    let a = c .before .before .before .before .before .before .args in
-    (omega arith, l .inv .1, simp length-set (l .inv .2), rw (c .unmarked .ensures) (fill-turn keyUnmarked 0 (a .keys .now) (l .next) (l .i) (omega arith) (omega arith) (l .inv .3)))
+    let at-loop = c .before .before .before in
+    let start = at-loop .before .before .before in
+    let l = at-loop .loop in
+    let a = start .args in (
+      omega arith,
+      l .inv .1,
+      simp length-set (l .inv .2),
+      rw (c .unmarked .ensures) (fill-turn keyUnmarked 0 (a .keys .now) (l .next) (l .i) (omega arith) (omega arith) (l .inv .3)),
+    )
 
 same-length : tie.Need-same-length Inv-loop μ-loop
 same-length c = search needs

@@ -39,7 +39,11 @@ cast-after : tie.Need-cast-after
 cast-after c = search needs
 
 add-after-2 : tie.Need-add-after-2
-add-after-2 c = let s = c .before .before .before .before .before .before .before .before .before .before .before .before in omega (arith, small (s .args .call .«ref_pic»), s .pre .1 .refs-room)
+add-after-2 c =
+    let at-rows = c .before .before .before .before .before in
+    let at-buffer-of = at-rows .before .before .before .before in
+    let s = at-buffer-of .before .before .before in
+    omega (arith, small (s .args .call .«ref_pic»), s .pre .1 .refs-room)
 
 buffer-byte-requires : tie.Need-buffer-byte-requires
 buffer-byte-requires c κs = search needs
@@ -52,11 +56,15 @@ same-length-2 c = search needs
 
 returns : tie.Need-returns
 returns c =
-    let s = c .before .before .before .before .before .before .before .before .before .before .before .before .before in
-    let w = c .before .before .before .before .before .before .before .copy-row .ensures in
-    let k = c .before .before .before .before .key-of .ensures in
-    let b = c .before .before .before .before .before .before .before .before .before .before .buffer-of .ensures .0 in
-    rw (w, k, b, c .buffer-byte .ensures) (pic-placed (s .args .keys .now) (s .args .rows .now) (s .args .rest) (s .args .call) (s .args .pos) (s .pre .0) (s .pre .1) (layer-fits s))
+    let at-key-of = c .before .before .before .before in
+    let at-copy-row = at-key-of .before .before .before in
+    let at-buffer-of = at-copy-row .before .before .before in
+    let s = at-buffer-of .before .before .before in
+    let w = at-copy-row .copy-row .ensures in
+    let k = at-key-of .key-of .ensures in
+    let b = at-buffer-of .buffer-of .ensures .0 in
+    rw (w, k, b, c .buffer-byte .ensures)
+    (pic-placed (s .args .keys .now) (s .args .rows .now) (s .args .rest) (s .args .call) (s .args .pos) (s .pre .0) (s .pre .1) (layer-fits s))
 
 pub picman-set-pic-to-pb-spec : {M : Type 1} → statement M
 picman-set-pic-to-pb-spec =

@@ -21,10 +21,18 @@ is-present-requires : tie.Need-is-present-requires
 is-present-requires c κs = search needs
 
 returns-2 : tie.Need-returns-2
-returns-2 c = rw (not-false (c .before .before .before .before .before .args .ref-pic) (c .before .before .before .if1 .left), sym (c .before .is-present .ensures) ∙ c .if2 .taken)
+returns-2 c =
+    rw (
+      not-false (c .before .before .before .before .before .args .ref-pic) (c .before .before .before .if1 .left),
+      sym (c .before .is-present .ensures) ∙ c .if2 .taken,
+    )
 
 returns-3 : tie.Need-returns-3
-returns-3 c = rw (not-false (c .before .before .before .before .before .args .ref-pic) (c .before .before .before .if1 .left), sym (c .before .is-present .ensures) ∙ c .if2 .left)
+returns-3 c =
+    rw (
+      not-false (c .before .before .before .before .before .args .ref-pic) (c .before .before .before .if1 .left),
+      sym (c .before .is-present .ensures) ∙ c .if2 .left,
+    )
 
 pub place-for-spec : {M : Type 1} → statement M
 place-for-spec =

@@ -13,22 +13,35 @@ place-for-requires c κs =
 
 picman-set-pic-to-pb-requires : tie.Need-picman-set-pic-to-pb-requires
 picman-set-pic-to-pb-requires c κs =
-    let s = c .before .before .before .before .before .before .before in
-    (s .pre .0, room-for (s .args .keys .now) (s .args .rows .now) (s .args .rest) (s .pre .0) (s .pre .1) (s .pre .2) (s .args .call) _ (c .before .before .if1 .taken))
+    let tested = c .before .before in
+    let s = tested .before .before .before .before .before in
+    (s .pre .0, room-for (s .args .keys .now) (s .args .rows .now) (s .args .rest) (s .pre .0) (s .pre .1) (s .pre .2) (s .args .call) _ (tested .if1 .taken))
 
 same-length : tie.Need-same-length
-same-length c = c .before .before .before .before .picman-set-pic-to-pb .ensures .sized-placed .slots-long ∙ sym (c .before .before .before .before .before .before .before .before .before .before .before .before .pre .0 .slots-long)
+same-length c =
+    let placed = c .before .before .before .before in
+    let tested = placed .before .before .before in
+    let start = tested .before .before .before .before .before in
+    placed .picman-set-pic-to-pb .ensures .sized-placed .slots-long ∙ sym (start .pre .0 .slots-long)
 
 same-length-2 : tie.Need-same-length-2
-same-length-2 c = c .before .before .before .before .picman-set-pic-to-pb .ensures .sized-placed .rows-long ∙ sym (c .before .before .before .before .before .before .before .before .before .before .before .before .pre .0 .rows-long)
+same-length-2 c =
+    let placed = c .before .before .before .before in
+    let tested = placed .before .before .before in
+    let start = tested .before .before .before .before .before in
+    placed .picman-set-pic-to-pb .ensures .sized-placed .rows-long ∙ sym (start .pre .0 .rows-long)
 
 returns : tie.Need-returns
 returns c =
-    let s = c .before .before .before .before .before .before .before .before .before .before .before .before in
-    let e = c .before .before .before .before .before .before .before .before .place-for .ensures in
-    on-placed (s .args .keys .now) (s .args .rows .now) (s .args .rest) (s .pre .0) (s .pre .1) (s .pre .2) (s .args .call) (s .args .keys .now) (s .args .rest) (s .pre .0 .slots-long) _ _ _
-    (omega (arith, c .before .before .before .before .before .before .before .if1 .taken))
-    (rw e at (c .before .before .before .before .picman-set-pic-to-pb .ensures))
+    let placed = c .before .before .before .before in
+    let tested = placed .before .before .before in
+    let at-place-for = tested .before in
+    let s = at-place-for .before .before .before .before in
+    let e = at-place-for .place-for .ensures in
+    on-placed (s .args .keys .now) (s .args .rows .now) (s .args .rest) (s .pre .0) (s .pre .1) (s .pre .2) (s .args .call)
+    (s .args .keys .now) (s .args .rest) (s .pre .0 .slots-long) _ _ _
+    (omega (arith, tested .if1 .taken))
+    (rw e at (placed .picman-set-pic-to-pb .ensures))
 
 refuse-requires : tie.Need-refuse-requires
 refuse-requires c κs = search needs
@@ -38,10 +51,12 @@ same-length-3 c = search needs
 
 returns-2 : tie.Need-returns-2
 returns-2 c =
-    let s = c .before .before .before .before .before .before in
-    let e = c .before .before .place-for .ensures in
+    let at-place-for = c .before .before in
+    let s = at-place-for .before .before .before .before in
+    let e = at-place-for .place-for .ensures in
     rw (c .refuse .ensures)
-    (on-taken (s .args .keys .now) (s .args .rows .now) (s .args .rest) (s .pre .0) (s .pre .1) (s .pre .2) (s .args .call) (s .args .keys .now) (s .args .rest) (s .pre .0 .slots-long) (omega (arith, c .before .if1 .left)))
+    (on-taken (s .args .keys .now) (s .args .rows .now) (s .args .rest) (s .pre .0) (s .pre .1) (s .pre .2) (s .args .call)
+    (s .args .keys .now) (s .args .rest) (s .pre .0 .slots-long) (omega (arith, c .before .if1 .left)))
 
 pub place-unmarked-spec : {M : Type 1} → statement M
 place-unmarked-spec =

@@ -19,7 +19,9 @@ abbrev μ-loop : tie.MeasureT-loop
 
 loop-holds : tie.Need-loop-holds Inv-loop μ-loop
 unfolding anyOf
-loop-holds c = let n : length (c .before .args .keys .now) ≡ 27 = c .before .pre in (omega arith, n, rw (drop-of-length-le (c .before .args .keys .now) {i = 27} (omega arith)))
+loop-holds c =
+    let n : length (c .before .args .keys .now) ≡ 27 = c .before .pre in
+    (omega arith, n, rw (drop-of-length-le (c .before .args .keys .now) {i = 27} (omega arith)))
 
 sub-i : tie.Need-sub-i Inv-loop μ-loop
 sub-i c = search needs
@@ -35,19 +37,30 @@ is-present-requires c κs = search needs
 
 returns : tie.Need-returns Inv-loop μ-loop
 returns c =
-    let l = c .before .before .before .before .loop in
-    highest-found 0 keyEmpty (c .before .before .before .before .before .before .args .keys .now) (l .i) (omega arith) (omega arith) (l .inv .2) (ap not (sym (c .before .is-present .ensures)) ∙ c .if1 .taken)
+    let at-loop = c .before .before .before .before in
+    let start = at-loop .before .before in
+    let l = at-loop .loop in
+    highest-found 0 keyEmpty (start .args .keys .now) (l .i) (omega arith) (omega arith) (l .inv .2)
+    (ap not (sym (c .before .is-present .ensures)) ∙ c .if1 .taken)
 
 loop-less : tie.Need-loop-less Inv-loop μ-loop
 loop-less c = search needs
 
 loop-again : tie.Need-loop-again Inv-loop μ-loop
 loop-again c =
-    let l = c .before .before .before .before .loop in
-    (omega arith, l .inv .1, none-from 0 keyEmpty (c .before .before .before .before .before .before .args .keys .now) (l .i) (omega arith) (omega arith) (l .inv .2) (ap not (sym (c .before .is-present .ensures)) ∙ c .if1 .left))
+    let at-loop = c .before .before .before .before in
+    let start = at-loop .before .before in
+    let l = at-loop .loop in (
+      omega arith,
+      l .inv .1,
+      none-from 0 keyEmpty (start .args .keys .now) (l .i) (omega arith) (omega arith) (l .inv .2)
+          (ap not (sym (c .before .is-present .ensures)) ∙ c .if1 .left),
+    )
 
 returns-2 : tie.Need-returns-2 Inv-loop μ-loop
-returns-2 c = let z : c .before .loop .i ≡ 0 = omega arith in sym (highest-none 0 keyEmpty (c .before .before .before .args .keys .now) (rw z at (c .before .loop .inv .2)))
+returns-2 c =
+    let z : c .before .loop .i ≡ 0 = omega arith in
+    sym (highest-none 0 keyEmpty (c .before .before .before .args .keys .now) (rw z at (c .before .loop .inv .2)))
 
 pub highest-empty-spec : {M : Type 1} → statement M
 highest-empty-spec =

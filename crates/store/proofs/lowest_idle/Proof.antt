@@ -30,8 +30,10 @@ is-idle-requires c κs = search needs
 
 returns : tie.Need-returns Inv-loop μ-loop
 returns c =
-    let l = c .before .before .before .before .loop in
-    let a = c .before .before .before .before .before .before .args in
+    let at-loop = c .before .before .before .before in
+    let start = at-loop .before .before in
+    let l = at-loop .loop in
+    let a = start .args in
     sym (lowest-hit 0 keyIdle (a .keys .now) (l .i) (omega arith) (sym (c .before .is-idle .ensures) ∙ c .if1 .taken)) ∙ l .inv .2
 
 add-i : tie.Need-add-i Inv-loop μ-loop
@@ -42,8 +44,10 @@ loop-less c = search needs
 
 loop-again : tie.Need-loop-again Inv-loop μ-loop
 loop-again c =
-    let l = c .before .before .before .before .loop in
-    let a = c .before .before .before .before .before .before .args in
+    let at-loop = c .before .before .before .before in
+    let start = at-loop .before .before in
+    let l = at-loop .loop in
+    let a = start .args in
     (omega arith, l .inv .1, lowest-miss 0 keyIdle (a .keys .now) (l .i) (omega arith) (sym (c .before .is-idle .ensures) ∙ c .if1 .left) ∙ l .inv .2)
 
 returns-2 : tie.Need-returns-2 Inv-loop μ-loop

@@ -11,7 +11,9 @@ use Rattle.sweeping.proofs.pick_outdated.Statement.{statement}
 use Rattle.sweeping.proofs.pick_outdated.Tie as tie
 
 abbrev Inv-loop : tie.InvT-loop
-Inv-loop keys gap picks₀ i₀ picks i = (i ≤ 27) × (length keys ≡ 27) × (length picks ≡ 27) × ((j : ℕ) → j < i → getD picks j false ≡ keyOutdated gap j (getD keys j 0))
+Inv-loop keys gap picks₀ i₀ picks i =
+    (i ≤ 27) × (length keys ≡ 27) × (length picks ≡ 27)
+    × ((j : ℕ) → j < i → getD picks j false ≡ keyOutdated gap j (getD keys j 0))
 
 abbrev μ-loop : tie.MeasureT-loop
 μ-loop keys gap picks₀ i₀ picks i = 27 - i

@@ -19,17 +19,30 @@ abbrev μ-loop : tie.MeasureT-loop
 μ-loop keys picks next₀ first kept₀ picked₀ i₀ next kept picked i = 27 - i
 
 -- a key that is picked finds a place behind those kept, and one that is kept a place before the first of these
-room-picked : (c : tie.After-unmarked Inv-loop μ-loop) → c .before .before .before .before .before .before .count-kept .result + c .before .before .before .before .before .loop .picked < 27
+abbrev looped : tie.After-unmarked Inv-loop μ-loop → tie.At-loop Inv-loop μ-loop
+looped c = c .before .before .before .before .before
+
+room-picked : (c : tie.After-unmarked Inv-loop μ-loop) → looped c .before .count-kept .result + looped c .loop .picked < 27
 room-picked c =
-    let a = c .before .before .before .before .before .before .before .before .before .args in
-    let l = c .before .before .before .before .before .loop in
-    omega (arith, pick-room (flagged (a .picks .now)) keyUnmarked 0 (a .keys .now) (l .next) _ (l .kept) (l .picked) (l .i) (omega arith) (l .inv .4) (c .before .if1 .taken))
+    let at-loop = c .before .before .before .before .before in
+    let start = at-loop .before .before .before .before in
+    let a = start .args in
+    let l = at-loop .loop in
+    omega (
+      arith,
+      pick-room (flagged (a .picks .now)) keyUnmarked 0 (a .keys .now) (l .next) _ (l .kept) (l .picked) (l .i) (omega arith)
+          (l .inv .4) (c .before .if1 .taken),
+    )
 
 room-kept : (c : tie.Else1 Inv-loop μ-loop) → c .before .before .before .before .loop .kept < 27
 room-kept c =
-    let a = c .before .before .before .before .before .before .before .before .args in
-    let l = c .before .before .before .before .loop in
-    let k = keep-room (flagged (a .picks .now)) keyUnmarked 0 (a .keys .now) (l .next) _ (l .kept) (l .picked) (l .i) (omega arith) (l .inv .4) (c .if1 .left) in
+    let at-loop = c .before .before .before .before in
+    let start = at-loop .before .before .before .before in
+    let a = start .args in
+    let l = at-loop .loop in
+    let k =
+    keep-room (flagged (a .picks .now)) keyUnmarked 0 (a .keys .now) (l .next) _ (l .kept) (l .picked) (l .i) (omega arith)
+    (l .inv .4) (c .if1 .left) in
     omega (arith, l .inv .4 .back-left)
 
 count-kept-requires : tie.Need-count-kept-requires Inv-loop μ-loop
@@ -86,9 +99,13 @@ loop-less c = search needs
 
 loop-again : tie.Need-loop-again Inv-loop μ-loop
 loop-again c =
-    let a = c .before .before .before .before .before .before .before .before .before .args in
-    let l = c .before .before .before .before .before .loop in
-    let f = parted-pick (flagged (a .picks .now)) keyUnmarked 0 (a .keys .now) (l .next) _ (l .kept) (l .picked) (l .i) (omega arith) (l .inv .4) (c .before .if1 .taken) in
+    let at-loop = c .before .before .before .before .before in
+    let start = at-loop .before .before .before .before in
+    let a = start .args in
+    let l = at-loop .loop in
+    let f =
+    parted-pick (flagged (a .picks .now)) keyUnmarked 0 (a .keys .now) (l .next) _ (l .kept) (l .picked) (l .i) (omega arith)
+    (l .inv .4) (c .before .if1 .taken) in
     (omega arith, l .inv .1, l .inv .2, simp length-set (l .inv .3), rw (c .unmarked .ensures) f)
 
 mul-next-2 : tie.Need-mul-next-2 Inv-loop μ-loop
@@ -108,9 +125,13 @@ loop-less-2 c = search needs
 
 loop-again-2 : tie.Need-loop-again-2 Inv-loop μ-loop
 loop-again-2 c =
-    let a = c .before .before .before .before .before .before .before .before .args in
-    let l = c .before .before .before .before .loop in
-    let f = parted-keep (flagged (a .picks .now)) keyUnmarked 0 (a .keys .now) (l .next) _ (l .kept) (l .picked) (l .i) (omega arith) (l .inv .4) (c .if1 .left) in
+    let at-loop = c .before .before .before .before in
+    let start = at-loop .before .before .before .before in
+    let a = start .args in
+    let l = at-loop .loop in
+    let f =
+    parted-keep (flagged (a .picks .now)) keyUnmarked 0 (a .keys .now) (l .next) _ (l .kept) (l .picked) (l .i) (omega arith)
+    (l .inv .4) (c .if1 .left) in
     (omega arith, l .inv .1, l .inv .2, simp length-set (l .inv .3), f)
 
 same-length : tie.Need-same-length Inv-loop μ-loop
