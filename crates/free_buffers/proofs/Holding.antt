@@ -47,7 +47,8 @@ flag-cons k ks flags b l = pick (keyPresent k)
     pick false = rw (or-false (getD flags n false), set-getD flags n false)
 
 -- The same for the key at place i, whose buffer number is n.
-pub flag-step : (keys : List ℕ) (flags : List Bool) (i n : ℕ) (p : Bool) (b : ℕ) → i < length keys → n ≡ keyBuffer (getD keys i 0) → p ≡ keyPresent (getD keys i 0)
+pub flag-step : (keys : List ℕ) (flags : List Bool) (i n : ℕ) (p : Bool) (b : ℕ) → i < length keys → n ≡ keyBuffer (getD keys i 0)
+    → p ≡ keyPresent (getD keys i 0)
     → n < length flags
     → (getD (set flags n (getD flags n false || p)) b false || anyOf (eqb b) (keyBuffers (drop (i + 1) keys)))
     ≡ (getD flags b false || anyOf (eqb b) (keyBuffers (drop i keys)))

@@ -59,7 +59,9 @@ unseen set n = eqb (set / 2 ^ n % 2) 0
 -- the n-th bit of a power of two
 bit-of-power : (b n : ℕ) → 2 ^ b / 2 ^ n % 2 ≡ boolByte (eqb b n)
 bit-of-power zero zero = refl
-bit-of-power zero (suc n) = ap (λ (x : ℕ). x % 2) (div-eq-of-lt (pow-lt {i = 0} {j = suc n} (omega arith))) ∙ sym (ap boolByte (ne-eqb 0 (suc n) (λ e. omega arith)))
+bit-of-power zero (suc n) =
+    ap (λ (x : ℕ). x % 2) (div-eq-of-lt (pow-lt {i = 0} {j = suc n} (omega arith)))
+    ∙ sym (ap boolByte (ne-eqb 0 (suc n) (λ e. omega arith)))
 bit-of-power (suc b) zero =
     ap (λ (x : ℕ). x / 1 % 2) (pow-suc 2 b)
     ∙ ap (λ (x : ℕ). x % 2) (let e : 2 ^ b * 2 / 1 ≡ 2 ^ b * 2 = omega arith in e)
@@ -80,7 +82,9 @@ bit-of-power (suc b) (suc n) =
         pick false e = sym (ne-eqb (suc b) (suc n) (λ q. eqb-false b n e (omega arith)))
 
 bit-of-union : (a b n : ℕ) → bitOr a b / 2 ^ n % 2 ≡ max (a / 2 ^ n % 2) (b / 2 ^ n % 2)
-bit-of-union a b n = ap (λ (x : ℕ). x % 2) (or-shr a b n ∙ or-step (a / 2 ^ n) (b / 2 ^ n)) ∙ digits-mod _ (highest (a / 2 ^ n % 2) (b / 2 ^ n % 2) (omega arith) (omega arith))
+bit-of-union a b n =
+    ap (λ (x : ℕ). x % 2) (or-shr a b n ∙ or-step (a / 2 ^ n) (b / 2 ^ n))
+    ∙ digits-mod _ (highest (a / 2 ^ n % 2) (b / 2 ^ n % 2) (omega arith) (omega arith))
   where
     highest : (x y : ℕ) → x < 2 → y < 2 → max x y < 2
     highest x y h k = let l : max x y ≤ 1 = max-le (omega arith) (omega arith) in omega arith
@@ -106,7 +110,10 @@ all-unseen-union set b (n ∷ ns) =
 
 -- A number that is new to the set adds its bit; one that is not leaves the set as it is.
 union-sum : (set b : ℕ) → bitOr set (2 ^ b) + set / 2 ^ b % 2 * 2 ^ b ≡ set + 2 ^ b
-union-sum set b = ap (λ (x : ℕ). bitOr set (2 ^ b) + x) (sym (and-high set 1 b ∙ refl)) ∙ ap (λ (x : ℕ). bitOr set (2 ^ b) + bitAnd set x) double ∙ or-add-and set (2 ^ b)
+union-sum set b =
+    ap (λ (x : ℕ). bitOr set (2 ^ b) + x) (sym (and-high set 1 b ∙ refl))
+    ∙ ap (λ (x : ℕ). bitOr set (2 ^ b) + bitAnd set x) double
+    ∙ or-add-and set (2 ^ b)
   where
     double : 2 ^ (1 + b) - 2 ^ b ≡ 2 ^ b
     double = let e : 2 ^ (1 + b) ≡ 2 ^ b * 2 = ap (λ (x : ℕ). 2 ^ x) (one-add b) ∙ pow-suc 2 b in omega arith
@@ -145,7 +152,11 @@ module _ (t u : Tally) (k : ℕ) (ks : List ℕ) where
   none : keyPresent k ≡ false → Gathered (strayed t k) u ks → Gathered t u (k ∷ ks)
   unfolding allOf countIf select
   none e g = record {
-    no-stray = rw e (g .no-stray ∙ ap (λ (b : Bool). b && allOf zeroIfNone ks) (or-none (t .stray) k) ∙ and-assoc (eqb (t .stray) 0) (eqb k 0) (allOf zeroIfNone ks));
+    no-stray =
+        rw e
+        (g .no-stray
+        ∙ ap (λ (b : Bool). b && allOf zeroIfNone ks) (or-none (t .stray) k)
+        ∙ and-assoc (eqb (t .stray) 0) (eqb k 0) (allOf zeroIfNone ks));
     no-high = rw e (g .no-high);
     occupied-is = rw e (g .occupied-is);
     marked-is = rw e (g .marked-is);
@@ -155,7 +166,9 @@ module _ (t u : Tally) (k : ℕ) (ks : List ℕ) where
 
   -- The sets are equal to the sums where the numbers are new.
   differs : t .set ≤ t .sum → Gathered (gathered t k) u ks
-      → eqb (u .set) (u .sum) ≡ (eqb (t .set) (t .sum) && (not (anyOf (eqb (keyBuffer k)) (heldBy ks)) && allDiffer (heldBy ks)) && (unseen (t .set) (keyBuffer k) && allOf (unseen (t .set)) (heldBy ks)))
+      → eqb (u .set) (u .sum)
+      ≡ (eqb (t .set) (t .sum) && (not (anyOf (eqb (keyBuffer k)) (heldBy ks)) && allDiffer (heldBy ks))
+      && (unseen (t .set) (keyBuffer k) && allOf (unseen (t .set)) (heldBy ks)))
   differs h g = g .differ ∙ rw (all-unseen-union (t .set) (keyBuffer k) (heldBy ks)) (pick (unseen (t .set) (keyBuffer k)) refl)
     where
       b : ℕ
@@ -182,8 +195,10 @@ module _ (t u : Tally) (k : ℕ) (ks : List ℕ) where
           ≡ (eqb (t .set) (t .sum) && (not (anyOf (eqb b) bs) && allDiffer bs) && (v && allOf (unseen (t .set)) bs))
       pick true e =
           let z : old b ≡ 0 = eqb-true (old b) 0 e in
-          let s : bitOr (t .set) (2 ^ b) ≡ t .set + 2 ^ b = (let w = union-sum (t .set) b in let f : old b * 2 ^ b ≡ 0 = rw z (zero-mul (2 ^ b)) in omega arith) in
-          ap (λ (q : Bool). q && allDiffer bs && (not (anyOf (eqb b) bs) && allOf (unseen (t .set)) bs)) (ap (λ (n : ℕ). eqb n (t .sum + 2 ^ b)) s ∙ shift (t .set) (t .sum) (2 ^ b))
+          let s : bitOr (t .set) (2 ^ b) ≡ t .set + 2 ^ b =
+          (let w = union-sum (t .set) b in let f : old b * 2 ^ b ≡ 0 = rw z (zero-mul (2 ^ b)) in omega arith) in
+          ap (λ (q : Bool). q && allDiffer bs && (not (anyOf (eqb b) bs) && allOf (unseen (t .set)) bs))
+          (ap (λ (n : ℕ). eqb n (t .sum + 2 ^ b)) s ∙ shift (t .set) (t .sum) (2 ^ b))
           ∙ regroup (eqb (t .set) (t .sum)) (allDiffer bs) (not (anyOf (eqb b) bs)) (allOf (unseen (t .set)) bs)
         where
           shift : (m n d : ℕ) → eqb (m + d) (n + d) ≡ eqb m n
@@ -208,12 +223,17 @@ module _ (t u : Tally) (k : ℕ) (ks : List ℕ) where
   unfolding allOf anyOf countIf select allDiffer
   picture e h g = record {
     no-stray = rw e (g .no-stray);
-    no-high = rw e (g .no-high ∙ ap (λ (b : Bool). b && allOf lowIfPicture ks) (or-below 47 (t .high) k) ∙ and-assoc (ltb (t .high) (2 ^ 47)) (ltb k (2 ^ 47)) (allOf lowIfPicture ks));
+    no-high =
+        rw e
+        (g .no-high
+        ∙ ap (λ (b : Bool). b && allOf lowIfPicture ks) (or-below 47 (t .high) k)
+        ∙ and-assoc (ltb (t .high) (2 ^ 47)) (ltb k (2 ^ 47)) (allOf lowIfPicture ks));
     occupied-is = rw e (let f = g .occupied-is in omega arith);
     marked-is = rw e (g .marked-is ∙ marks (keyRef k) refl);
     set-below =
         rw e (g .set-below
-        ∙ ap (λ (b : Bool). b && allOf below27 (heldBy ks)) (or-below 27 (t .set) (2 ^ keyBuffer k) ∙ ap (λ (b : Bool). ltb (t .set) (2 ^ 27) && b) (power-below (keyBuffer k) 27))
+        ∙ ap (λ (b : Bool). b && allOf below27 (heldBy ks))
+        (or-below 27 (t .set) (2 ^ keyBuffer k) ∙ ap (λ (b : Bool). ltb (t .set) (2 ^ 27) && b) (power-below (keyBuffer k) 27))
         ∙ and-assoc (ltb (t .set) (2 ^ 27)) (below27 (keyBuffer k)) (allOf below27 (heldBy ks)));
     differ = rw e (differs h g);
   }
@@ -294,5 +314,13 @@ module _ (t : Tally) (k : ℕ) where
   absent e = rw e refl
 
   pub there : (bit : ℕ) → keyPresent k ≡ true → bit ≡ 2 ^ keyBuffer k
-      → record { stray = t .stray; high = bitOr (t .high) k; occupied = t .occupied + 1; marked = t .marked + k / 2 % 2; set = bitOr (t .set) bit; sum = t .sum + bit } ≡ tallied t k
+      → record {
+        stray = t .stray;
+        high = bitOr (t .high) k;
+        occupied = t .occupied + 1;
+        marked = t .marked + k / 2 % 2;
+        set = bitOr (t .set) bit;
+        sum = t .sum + bit;
+      }
+      ≡ tallied t k
   there bit e f = rw (e, f) refl

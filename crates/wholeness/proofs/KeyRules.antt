@@ -55,7 +55,9 @@ module _ (rows : List ℕ) (k : ℕ) where
       by : (t : Bool) → fields ≡ t → t ≡ false
       by false f = refl
       by true f =
-          let h = six (eqb (keyBuffer k) 0) (eqb (keyNumber k) 0) (not (keyRef k)) (not (keyOut k)) (eqb (keyLayer k) 0) (allOf (λ n. eqb n 0) (replicate listPlaces 0)) f in
+          let h =
+          six (eqb (keyBuffer k) 0) (eqb (keyNumber k) 0) (not (keyRef k)) (not (keyOut k)) (eqb (keyLayer k) 0)
+          (allOf (λ n. eqb n 0) (replicate listPlaces 0)) f in
           absurd (eqb-false k 0 e (no-bits k (eqb-false (k % 2) 1 absent)
           (eqb-true (keyBuffer k) 0 (h .0))
           (eqb-true (keyNumber k) 0 (h .1))
@@ -134,7 +136,8 @@ module _ (keys rows : List ℕ) (rest : Rest) where
   unfolding whole allOf
   whole-told some every es ee =
       rw (occupied, marked, stray, high, below, differ)
-      (in-order (leb (rest .«max_pb_size») slots) (leb (rest .«max_num_ref_pics») listPlaces) (leb (rest .«num_refp_0») listPlaces) (leb (rest .«num_refp_1») listPlaces)
+      (in-order (leb (rest .«max_pb_size») slots) (leb (rest .«max_num_ref_pics») listPlaces)
+      (leb (rest .«num_refp_0») listPlaces) (leb (rest .«num_refp_1») listPlaces)
       (eqb (rest .«cur_pb_size») (countIf isPresent (map (slotAt rows) keys)))
       (eqb (rest .«cur_num_ref_pics») (countIf isMarked (map (slotAt rows) keys)))
       (allOf zeroIfEmpty (places (stands keys rows rest)))

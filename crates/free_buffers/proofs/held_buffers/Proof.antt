@@ -13,14 +13,20 @@ use Rattle.free_buffers.proofs.held_buffers.Statement.{statement}
 use Rattle.free_buffers.proofs.held_buffers.Tie as tie
 
 abbrev Inv-loop : tie.InvT-loop
-Inv-loop keys held₀ i₀ held i = (i ≤ 27) × (length keys ≡ 27) × (length held ≡ 32) × ((b : ℕ) → b < 32 → (getD held b false || anyOf (eqb b) (keyBuffers (drop i keys))) ≡ anyOf (eqb b) (keyBuffers keys))
+Inv-loop keys held₀ i₀ held i =
+    (i ≤ 27) × (length keys ≡ 27) × (length held ≡ 32)
+    × ((b : ℕ) → b < 32 → (getD held b false || anyOf (eqb b) (keyBuffers (drop i keys))) ≡ anyOf (eqb b) (keyBuffers keys))
 
 abbrev μ-loop : tie.MeasureT-loop
 μ-loop keys held₀ i₀ held i = 27 - i
 
 loop-holds : tie.Need-loop-holds Inv-loop μ-loop
-loop-holds c =
-    (omega arith, c .before .pre, refl, λ b h. ap (λ (t : Bool). t || anyOf (eqb b) (keyBuffers (c .before .args .keys .now))) (getD-replicate 32 b false false h))
+loop-holds c = (
+  omega arith,
+  c .before .pre,
+  refl,
+  λ b h. ap (λ (t : Bool). t || anyOf (eqb b) (keyBuffers (c .before .args .keys .now))) (getD-replicate 32 b false false h),
+)
 
 mul-k : tie.Need-mul-k Inv-loop μ-loop
 mul-k c = search needs
@@ -61,7 +67,10 @@ unfolding anyOf select
 returns c =
     record {
       size = c .before .loop .inv .2;
-      flag = λ b h. sym (or-false _) ∙ (rw (drop-of-length-le (c .before .before .before .args .keys .now) {i = c .before .loop .i} (omega arith)) at (c .before .loop .inv .3 b h));
+      flag = λ b h.
+          let l = c .before .loop in
+          let none-left = drop-of-length-le (c .before .before .before .args .keys .now) {i = l .i} (omega arith) in
+          sym (or-false _) ∙ (rw none-left at (l .inv .3 b h));
     }
 
 pub held-buffers-spec : {M : Type 1} → statement M

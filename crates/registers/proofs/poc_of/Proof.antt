@@ -22,7 +22,15 @@ signed-of-requires-2 : tie.Need-signed-of-requires-2
 signed-of-requires-2 c κs = search needs
 
 returns : tie.Need-returns
-returns c = let number = c .before .before .before in rw (toZ-ofZ w32 (number .signed-of .result) (record { sfits = number .signed-of .ok }), toZ-ofZ w32 (c .signed-of2 .result) (record { sfits = c .signed-of2 .ok }), c .signed-of2 .ensures, number .signed-of .ensures) refl
+returns c =
+    let number = c .before .before .before in
+    rw (
+      toZ-ofZ w32 (number .signed-of .result) (record { sfits = number .signed-of .ok }),
+      toZ-ofZ w32 (c .signed-of2 .result) (record { sfits = c .signed-of2 .ok }),
+      c .signed-of2 .ensures,
+      number .signed-of .ensures,
+    )
+    refl
 
 pub poc-of-spec : {M : Type 1} → statement M
 poc-of-spec =

@@ -12,7 +12,9 @@ use Rattle.registers.proofs.store.Statement.{statement}
 use Rattle.registers.proofs.store.Tie as tie
 
 abbrev Inv-loop : tie.InvT-loop
-Inv-loop registers₀ new i₀ registers i = (i ≤ registersLength) × (length new ≡ registersLength) × (length registers ≡ registersLength) × (take i registers ≡ take i new)
+Inv-loop registers₀ new i₀ registers i =
+    (i ≤ registersLength) × (length new ≡ registersLength) × (length registers ≡ registersLength)
+    × (take i registers ≡ take i new)
 
 abbrev μ-loop : tie.MeasureT-loop
 μ-loop registers₀ new i₀ registers i = registersLength - i

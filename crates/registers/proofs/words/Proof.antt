@@ -50,7 +50,8 @@ cast-t17 c = search needs
 
 returns : tie.Need-returns
 returns c =
-    let offset = c .before .before .before .before .before .before .before in
+    let at-counts = c .before .before .before .before in
+    let offset = at-counts .before .before .before in
     let number = offset .before in
     let start = number .before .before .before .before .before in
     let fields = start .good .1 .0 .1 .1 in

@@ -23,7 +23,9 @@ move-last-requires : tie.Need-move-last-requires
 move-last-requires c κs = search needs
 
 same-length : tie.Need-same-length
-same-length c = let s = c .before .before .before .before .before in ap length (removed (c .before .before)) ∙ remove-length 0 (s .args .pos) (s .args .keys .now) (omega arith)
+same-length c =
+    let s = c .before .before .before .before .before in
+    ap length (removed (c .before .before)) ∙ remove-length 0 (s .args .pos) (s .args .keys .now) (omega arith)
 
 returns : tie.Need-returns
 returns c = removed (c .before .before)

@@ -18,11 +18,13 @@ cast-result-2 c = search needs
 
 returns : tie.Need-returns
 returns c rows =
-    let half = c .before .before .before .before .before .before in
-    let with-lease = half .before .before .before .before .before .before in
-    let at-slots = with-lease .before in
+    let at-counts = c .before .before .before .before in
+    let at-limits = at-counts .before .before .before .before in
+    let at-lease = at-limits .before .before .before .before in
+    let at-slots = at-lease .before in
     let s = at-slots .before .before in
-    whole-told (s .args .keys .now) rows (s .args .rest) (at-slots .tally-all .result) (with-lease .tally-key .result) (at-slots .tally-all .ensures .0) (with-lease .tally-key .ensures)
+    whole-told (s .args .keys .now) rows (s .args .rest) (at-slots .tally-all .result) (at-lease .tally-key .result)
+    (at-slots .tally-all .ensures .0) (at-lease .tally-key .ensures)
 
 pub is-whole-spec : {M : Type 1} → statement M
 is-whole-spec = tie.close (tie.spec tally-all-requires tally-key-requires cast-result cast-result-2 returns)

@@ -10,7 +10,9 @@ use Rattle.keys.proofs.row.clear_row.Statement.{statement}
 use Rattle.keys.proofs.row.clear_row.Tie as tie
 
 abbrev Inv-loop : tie.InvT-loop
-Inv-loop rows₀ to target j₀ rows j = (target ≡ 21 * to) × (to < rowCount) × (length rows₀ ≡ rowsLength) × Pasting rows₀ (21 * to) (replicate rowLength 0) rowLength j rows
+Inv-loop rows₀ to target j₀ rows j =
+    (target ≡ 21 * to) × (to < rowCount) × (length rows₀ ≡ rowsLength)
+    × Pasting rows₀ (21 * to) (replicate rowLength 0) rowLength j rows
 
 abbrev μ-loop : tie.MeasureT-loop
 μ-loop rows₀ to target j₀ rows j = 21 - j

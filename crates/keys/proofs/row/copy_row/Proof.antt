@@ -11,7 +11,9 @@ use Rattle.keys.proofs.row.copy_row.Statement.{statement}
 use Rattle.keys.proofs.row.copy_row.Tie as tie
 
 abbrev Inv-loop : tie.InvT-loop
-Inv-loop rows₀ from to n source target j₀ rows j = (source ≡ 21 * from) × (target ≡ 21 * to) × (from < rowCount) × (to < rowCount) × (n ≤ rowLength) × (length rows₀ ≡ rowsLength) × Pasting rows₀ (21 * to) (rowAt rows₀ from) n j rows
+Inv-loop rows₀ from to n source target j₀ rows j =
+    (source ≡ 21 * from) × (target ≡ 21 * to) × (from < rowCount) × (to < rowCount) × (n ≤ rowLength)
+    × (length rows₀ ≡ rowsLength) × Pasting rows₀ (21 * to) (rowAt rows₀ from) n j rows
 
 abbrev μ-loop : tie.MeasureT-loop
 μ-loop rows₀ from to n source target j₀ rows j = n - j
@@ -23,7 +25,15 @@ mul-target : tie.Need-mul-target Inv-loop μ-loop
 mul-target c = search needs
 
 loop-holds : tie.Need-loop-holds Inv-loop μ-loop
-loop-holds c = (omega arith, omega arith, c .pre .1, c .pre .2, c .pre .4, c .pre .0, pasting-none (c .args .rows .now) (21 * c .args .to) (rowAt (c .args .rows .now) (c .args .from)) (c .args .n) (c .pre .0))
+loop-holds c = (
+  omega arith,
+  omega arith,
+  c .pre .1,
+  c .pre .2,
+  c .pre .4,
+  c .pre .0,
+  pasting-none (c .args .rows .now) (21 * c .args .to) (rowAt (c .args .rows .now) (c .args .from)) (c .args .n) (c .pre .0),
+)
 
 add-rows : tie.Need-add-rows Inv-loop μ-loop
 add-rows c = search needs

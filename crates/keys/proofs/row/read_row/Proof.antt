@@ -10,7 +10,9 @@ use Rattle.keys.proofs.row.read_row.Statement.{statement}
 use Rattle.keys.proofs.row.read_row.Tie as tie
 
 abbrev Inv-loop : tie.InvT-loop
-Inv-loop rows from numbers₀ source j₀ numbers j = (j ≤ 21) × (length rows ≡ rowsLength) × (source ≡ 21 * from) × (from < rowCount) × (length numbers ≡ 21) × (take j numbers ≡ take j (drop source rows))
+Inv-loop rows from numbers₀ source j₀ numbers j =
+    (j ≤ 21) × (length rows ≡ rowsLength) × (source ≡ 21 * from) × (from < rowCount) × (length numbers ≡ 21)
+    × (take j numbers ≡ take j (drop source rows))
 
 abbrev μ-loop : tie.MeasureT-loop
 μ-loop rows from numbers₀ source j₀ numbers j = 21 - j
@@ -45,8 +47,14 @@ loop-less c = search needs
 loop-again : tie.Need-loop-again Inv-loop μ-loop
 loop-again c =
     let l = c .before .before .loop in
-    let a = c .before .before .before .args in
-    (omega arith, l .inv .1, l .inv .2, l .inv .3, simp length-set (l .inv .4), row-turn (a .rows .now) (l .numbers) _ (l .j) (omega arith) (omega arith) (l .inv .4) (l .inv .5))
+    let a = c .before .before .before .args in (
+      omega arith,
+      l .inv .1,
+      l .inv .2,
+      l .inv .3,
+      simp length-set (l .inv .4),
+      row-turn (a .rows .now) (l .numbers) _ (l .j) (omega arith) (omega arith) (l .inv .4) (l .inv .5),
+    )
 
 returns : tie.Need-returns Inv-loop μ-loop
 returns c =

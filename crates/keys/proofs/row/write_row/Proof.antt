@@ -10,7 +10,9 @@ use Rattle.keys.proofs.row.write_row.Statement.{statement}
 use Rattle.keys.proofs.row.write_row.Tie as tie
 
 abbrev Inv-loop : tie.InvT-loop
-Inv-loop rows₀ to numbers target j₀ rows j = (target ≡ 21 * to) × (to < rowCount) × (length rows₀ ≡ rowsLength) × (length numbers ≡ rowLength) × Pasting rows₀ (21 * to) numbers rowLength j rows
+Inv-loop rows₀ to numbers target j₀ rows j =
+    (target ≡ 21 * to) × (to < rowCount) × (length rows₀ ≡ rowsLength) × (length numbers ≡ rowLength)
+    × Pasting rows₀ (21 * to) numbers rowLength j rows
 
 abbrev μ-loop : tie.MeasureT-loop
 μ-loop rows₀ to numbers target j₀ rows j = 21 - j
@@ -19,7 +21,8 @@ mul-target : tie.Need-mul-target Inv-loop μ-loop
 mul-target c = search needs
 
 loop-holds : tie.Need-loop-holds Inv-loop μ-loop
-loop-holds c = (omega arith, c .pre .2, c .pre .0, c .pre .1, pasting-none (c .args .rows .now) (21 * c .args .to) (c .args .numbers .now) rowLength (c .pre .0))
+loop-holds c =
+    (omega arith, c .pre .2, c .pre .0, c .pre .1, pasting-none (c .args .rows .now) (21 * c .args .to) (c .args .numbers .now) rowLength (c .pre .0))
 
 mul-rows : tie.Need-mul-rows Inv-loop μ-loop
 mul-rows c = search needs
