@@ -37,7 +37,9 @@ put-defined refp c = record {
 }
 
 -- A put on the lists that came.
-pub put-on-lists : {pm : EvcPm} {refp : List EvcRefP} {keys rows : List ℕ} {o : Opened} → Opens pm refp keys rows o → (c : PutCall) {r : Called} {keys′ rows′ : List ℕ} {lists : List EvcRefP}
-    → Comes r keys′ rows′ lists (putWhole (stands keys rows (o .rest)) (listsIn rows) c) → Comes r keys′ rows′ lists (putWhole (stands keys rows (o .rest)) refp c)
+pub put-on-lists : {pm : EvcPm} {refp : List EvcRefP} {keys rows : List ℕ} {o : Opened} → Opens pm refp keys rows o
+    → (c : PutCall) {r : Called} {keys′ rows′ : List ℕ} {lists : List EvcRefP}
+    → Comes r keys′ rows′ lists (putWhole (stands keys rows (o .rest)) (listsIn rows) c)
+    → Comes r keys′ rows′ lists (putWhole (stands keys rows (o .rest)) refp c)
 put-on-lists {keys} {rows} {o} p c {r} {keys′} {rows′} {lists} came =
     subst (λ (es : List EvcRefP). Comes r keys′ rows′ lists (putWhole (stands keys rows (o .rest)) es c)) (p .lists-stay) came

@@ -25,7 +25,8 @@ module _ {d on : EvcPm → PmResult} (f : Defined d on) {pm : EvcPm} {refp : Lis
   pub turned-away : o .«is_whole» ≡ false → pmRefused Refusal.StateNotWhole pm ≡ d pm
   turned-away e = sym (f .broken pm (came-broken p e))
 
-  module _ (e : o .«is_whole» ≡ true) {r : Called} {keys′ rows′ : List ℕ} {lists : List EvcRefP} (came : Comes r keys′ rows′ lists (on (stands keys rows (o .rest)))) where
+  module _ (e : o .«is_whole» ≡ true) {r : Called} {keys′ rows′ : List ℕ} {lists : List EvcRefP}
+      (came : Comes r keys′ rows′ lists (on (stands keys rows (o .rest)))) where
     wanted : on (stands keys rows (o .rest)) ≡ d pm
     wanted = ap on (opened-is p e) ∙ sym (f .on-whole pm (came-whole p e))
 

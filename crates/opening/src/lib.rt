@@ -44,7 +44,9 @@ pub fn not_whole(pm: EvcPm) -> PmResult
 // A call's answer with the state after it.
 pub fn finished(keys: &[u64], rows: &[u32], called: Called) -> PmResult
     requires { ⌜ Sized (now keys) (now rows) × (whole (stands (now keys) (now rows) (called .rest)) ≡ true) ⌝ }
-    ensures { λ r. ⌜ r ≡ record { answer = called .answer; pm = stands (now (keys .entry)) (now (rows .entry)) (called .rest) } ⌝ }
+    ensures { λ r.
+        let after = stands (now (keys .entry)) (now (rows .entry)) (called .rest) in
+        ⌜ r ≡ record { answer = called .answer; pm = after } ⌝ }
 {
     let answer = called.answer;
     let pm = put_together(keys, rows, called.rest);

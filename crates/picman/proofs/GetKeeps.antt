@@ -76,7 +76,8 @@ module _ (pm : EvcPm) (w : whole pm ≡ true) (size : length (pm .pic) ≡ slots
         not-marked : isMarked taken ≡ false
         not-marked =
             ap (λ (r : Bool). taken .present && r)
-            (not-true (taken .pic .«is_ref») (and-left (not (taken .pic .«is_ref»)) (not (taken .pic .«need_for_out»)) (and-right (taken .present) rest is-idle)))
+            (not-true (taken .pic .«is_ref»)
+            (and-left (not (taken .pic .«is_ref»)) (not (taken .pic .«need_for_out»)) (and-right (taken .present) rest is-idle)))
             ∙ and-false (taken .present)
 
   -- ---- a new picture is made
@@ -94,7 +95,13 @@ module _ (pm : EvcPm) (w : whole pm ≡ true) (size : length (pm .pic) ≡ slots
     pub fresh-held : SameNumbers (freeBuffer pm ∷ heldBuffers pm) (heldBuffers (fresh pm .pm))
     fresh-held b =
         let new = occupiedBy newPic (freeBuffer pm) in
-        omega (arith, buffers-passing (eqb b) (pm .pic ++ (new ∷ [])), count-last (holds (eqb b)) (pm .pic) new, held-slots b, count-one (eqb b) (freeBuffer pm) (heldBuffers pm))
+        omega (
+          arith,
+          buffers-passing (eqb b) (pm .pic ++ (new ∷ [])),
+          count-last (holds (eqb b)) (pm .pic) new,
+          held-slots b,
+          count-one (eqb b) (freeBuffer pm) (heldBuffers pm),
+        )
 
     fresh-below : (b : ℕ) → List·Memᴰ b (heldBuffers (fresh pm .pm)) → b < slots
     fresh-below b m =

@@ -54,9 +54,11 @@ module _ (keys rows : List ℕ) (rest : Rest) (sized : Sized keys rows) (w : who
           let k : ℕ = getD keys (lowest keyIdle keys) 0 in
           let m : List·Memᴰ (slotAt rows k) (map (slotAt rows) keys) =
           Memᴰ·map (slotAt rows) (mem-at keys (lowest keyIdle keys) 0 (omega (arith, sized .slots-long))) in
-          whole-rules (stands keys rows rest) w .numbers-fit (slotAt rows k) (Memᴰ·append-left (slotAt rows (rest .lease) ∷ []) m) (and-left (keyPresent k) _ idle)
+          whole-rules (stands keys rows rest) w .numbers-fit (slotAt rows k) (Memᴰ·append-left (slotAt rows (rest .lease) ∷ []) m)
+          (and-left (keyPresent k) _ idle)
 
-      pub on-idle : Calls (keyReused keys rest (lowest keyIdle keys)) keys rows rest (removeAt 0 (lowest keyIdle keys) keys) rows (getWhole (stands keys rows rest))
+      pub on-idle : let i = lowest keyIdle keys in
+          Calls (keyReused keys rest i) keys rows rest (removeAt 0 i keys) rows (getWhole (stands keys rows rest))
       on-idle =
           let i : ℕ = lowest keyIdle keys in
           let inside : i < length keys = omega (arith, sized .slots-long) in
@@ -108,7 +110,10 @@ module _ (keys rows : List ℕ) (rest : Rest) (sized : Sized keys rows) (w : who
               answers = ap (λ (n : ℕ). Answer.Picture n 0) (sym same-free);
               stands-for = rw (unseen, slot-new after b (omega arith) written, same-free) refl;
               lists-stay = lists-stay rows b zeros rowLength r h (omega arith) (omega arith);
-              still-sized = record { slots-long = sized .slots-long; rows-long = length-paste rows (rowLength * b) zeros rowLength (omega arith) (omega arith) ∙ r };
+              still-sized = record {
+                slots-long = sized .slots-long;
+                rows-long = length-paste rows (rowLength * b) zeros rowLength (omega arith) (omega arith) ∙ r;
+              };
             }))
           where
             free-not-held : (b : ℕ) → b ≡ keyFree keys → List·Memᴰ b (keyBuffers keys) → ⊥

@@ -64,7 +64,8 @@ lease-passes p xs lease e = and-right (allOf p xs) (allOf p (lease ∷ [])) (sym
 -- An empty slot has no mark to lose.
 zero-unmarked : (s : Slot) → zeroIfEmpty s ≡ true → zeroIfEmpty (unmarked s) ≡ true
 zero-unmarked s e =
-    pick (s .present) (eqb (s .buf) 0) (eqb (s .pic .poc) 0) (s .pic .«is_ref») (not (s .pic .«need_for_out»)) (eqb (s .pic .«temporal_id») 0) (allOf (λ n. eqb n 0) (s .pic .«list_poc»)) e
+    pick (s .present) (eqb (s .buf) 0) (eqb (s .pic .poc) 0) (s .pic .«is_ref») (not (s .pic .«need_for_out»))
+    (eqb (s .pic .«temporal_id») 0) (allOf (λ n. eqb n 0) (s .pic .«list_poc»)) e
   where
     pick : (a b c r d f g : Bool) → (a || (b && c && not r && d && f && g)) ≡ true → (a || (b && c && true && d && f && g)) ≡ true
     pick true b c r d f g e = refl
@@ -131,4 +132,6 @@ module _ (c : PutCall) (pm : EvcPm) (w : whole pm ≡ true) (size : length (pm .
   remarked-lease = ap (λ (q : EvcPm). q .«pic_lease») (remarks .counted)
 
   pub remarked-held : SameNumbers (heldBuffers pm) (heldBuffers (remarked c pm))
-  remarked-held b = ap (λ (q : EvcPm). countIf (eqb b) (heldBuffers q)) (remarks .counted) ∙ kept-held pm (remarked c pm .pic) (remarks .kept) (pm .«cur_pb_size») (countIf isMarked (remarked c pm .pic)) b
+  remarked-held b =
+      ap (λ (q : EvcPm). countIf (eqb b) (heldBuffers q)) (remarks .counted)
+      ∙ kept-held pm (remarked c pm .pic) (remarks .kept) (pm .«cur_pb_size») (countIf isMarked (remarked c pm .pic)) b

@@ -48,7 +48,9 @@ module _ (keys : List ℕ) (rest : Rest) (long : length keys ≡ slots) where
     sized : Sized keys rows
     sized = record { slots-long = long; rows-long = rows-long }
 
-    pub on-due : due < slots → Calls (keyGiven (getD keys due 0) rest) keys rows rest (set keys due (keyHandedOver (getD keys due 0))) rows (outWhole (stands keys rows rest))
+    pub on-due : due < slots
+        → Calls (keyGiven (getD keys due 0) rest) keys rows rest (set keys due (keyHandedOver (getD keys due 0))) rows
+        (outWhole (stands keys rows rest))
     on-due h =
         let k : ℕ = getD keys due 0 in
         let at : getD (map (slotAt rows) keys) due noSlot ≡ slotAt rows k = map-at (slotAt rows) keys due 0 noSlot (omega arith) in
@@ -66,14 +68,16 @@ module _ (keys : List ℕ) (rest : Rest) (long : length keys ≡ slots) where
       none-due : someDue pm ≡ false
       none-due = map-any (slotAt rows) (isDue (rest .«poc_next_output»)) keys ∙ lowest-none 0 (keyDue (rest .«poc_next_output»)) keys (omega arith)
 
-      pub on-not-yet : anyOf keyWanted keys ≡ true → Calls (record { answer = Answer.NotYet; rest = rest }) keys rows rest keys rows (outWhole (stands keys rows rest))
+      pub on-not-yet : anyOf keyWanted keys ≡ true
+          → Calls (record { answer = Answer.NotYet; rest = rest }) keys rows rest keys rows (outWhole (stands keys rows rest))
       on-not-yet some =
           calls-by (out-none-due pm none-due) (record {
             comes = record { answers = rw (map-any (slotAt rows) isWanted keys ∙ some) refl; stands-for = refl; lists-stay = refl; still-sized = sized };
             untouched = λ why e. let z : _≡_ {A = ℕ} 0 1 = cc in absurd (omega arith);
           })
 
-      pub on-no-more : anyOf keyWanted keys ≡ false → Calls (record { answer = Answer.NoMore; rest = rest }) keys rows rest keys rows (outWhole (stands keys rows rest))
+      pub on-no-more : anyOf keyWanted keys ≡ false
+          → Calls (record { answer = Answer.NoMore; rest = rest }) keys rows rest keys rows (outWhole (stands keys rows rest))
       on-no-more nothing =
           calls-by (out-none-due pm none-due) (record {
             comes = record { answers = rw (map-any (slotAt rows) isWanted keys ∙ nothing) refl; stands-for = refl; lists-stay = refl; still-sized = sized };

@@ -61,7 +61,8 @@ not-marked c pm e = pick (c .«is_idr») refl
 
 -- ---- a whole state with a picture leased
 
-module _ (keys rows : List ℕ) (rest : Rest) (sized : Sized keys rows) (w : whole (stands keys rows rest) ≡ true) (leased : keyPresent (rest .lease) ≡ true) (c : PutCall) where
+module _ (keys rows : List ℕ) (rest : Rest) (sized : Sized keys rows) (w : whole (stands keys rows rest) ≡ true)
+    (leased : keyPresent (rest .lease) ≡ true) (c : PutCall) where
   abbrev pm : EvcPm
   pm = stands keys rows rest
 
@@ -122,7 +123,8 @@ module _ (keys rows : List ℕ) (rest : Rest) (sized : Sized keys rows) (w : who
       pick : (r t : Bool) → keyPresent (getD keys (rest .«cur_num_ref_pics») 0) ≡ t
           → cond r (cond t slots (rest .«cur_num_ref_pics»)) (highest keyEmpty keys) < slots
           → ((r && getD (map (slotAt rows) keys) (rest .«cur_num_ref_pics») noSlot .present) ≡ false)
-          × (cond r (rest .«cur_num_ref_pics») (highest isEmpty (map (slotAt rows) keys)) ≡ cond r (cond t slots (rest .«cur_num_ref_pics»)) (highest keyEmpty keys))
+          × (cond r (rest .«cur_num_ref_pics») (highest isEmpty (map (slotAt rows) keys))
+          ≡ cond r (cond t slots (rest .«cur_num_ref_pics»)) (highest keyEmpty keys))
       pick true true e h = absurd (omega arith)
       pick true false e h = (there ∙ e, refl)
       pick false t e h = (refl, map-highest (slotAt rows) isEmpty keys)
@@ -149,7 +151,8 @@ counted : (r : Bool) (n : ℕ) → n + boolByte r ≡ cond r (n + 1) n
 counted true n = refl
 counted false n = omega arith
 
-module _ (keys rows : List ℕ) (rest : Rest) (c : PutCall) (pos : ℕ) (sized : Sized keys rows) (room : PlaceRoom keys rest pos) (layer : c .«temporal_id» < 256) where
+module _ (keys rows : List ℕ) (rest : Rest) (c : PutCall) (pos : ℕ) (sized : Sized keys rows) (room : PlaceRoom keys rest pos)
+    (layer : c .«temporal_id» < 256) where
   abbrev b : ℕ
   b = keyBuffer (rest .lease)
 
@@ -183,7 +186,8 @@ module _ (keys rows : List ℕ) (rest : Rest) (c : PutCall) (pos : ℕ) (sized :
       let e = room .forward-few in
       let h = room .buffer-below in
       let r = sized .rows-long in
-      let written : rowAt after b ≡ take n (rowAt rows numberRow) ++ drop n (rowAt rows b) = row-written rows b (rowAt rows numberRow) n r (omega arith) e few in
+      let written : rowAt after b ≡ take n (rowAt rows numberRow) ++ drop n (rowAt rows b) =
+      row-written rows b (rowAt rows numberRow) n r (omega arith) e few in
       let others = row-other rows b (rowAt rows numberRow) n r (omega arith) e few in
       let unseen : map (slotAt after) keys ≡ map (slotAt rows) keys = slots-unseen rows after b others keys (room .buffer-free) in
       let made = slot-made after (c .poc) (c .«temporal_id») b (c .«need_for_output») (c .«ref_pic») layer (omega arith) in
@@ -217,7 +221,8 @@ module _ (keys rows : List ℕ) (rest : Rest) (c : PutCall) (sized : Sized keys 
   on-nothing r keys′ p d = calls-by (put-none (stands keys rows rest) (remarked c (stands keys rows rest)) (listsIn rows) c p) (calls-done (d .answers) d)
 
   module _ (p : c .«has_pic» ≡ true) where
-    pub on-high : 2147483647 < c .poc → Calls (turnedDown Refusal.NumberTooHigh rest) keys rows rest keys rows (putWhole (stands keys rows rest) (listsIn rows) c)
+    pub on-high : 2147483647 < c .poc
+        → Calls (turnedDown Refusal.NumberTooHigh rest) keys rows rest keys rows (putWhole (stands keys rows rest) (listsIn rows) c)
     on-high t =
         calls-by (put-high (stands keys rows rest) (remarked c (stands keys rows rest)) (listsIn rows) c p t)
         (calls-refused Refusal.NumberTooHigh keys rows rest sized)
@@ -240,7 +245,8 @@ module _ (keys rows : List ℕ) (rest : Rest) (c : PutCall) (sized : Sized keys 
           d
 
 -- the state after marking is whole
-pub marked-whole : (c : PutCall) (keys rows next : List ℕ) (rest : Rest) (n : ℕ) → Sized keys rows → whole (stands keys rows rest) ≡ true → Remarked c keys next n
+pub marked-whole : (c : PutCall) (keys rows next : List ℕ) (rest : Rest) (n : ℕ) → Sized keys rows
+    → whole (stands keys rows rest) ≡ true → Remarked c keys next n
     → whole (stands next rows (withRefs rest n)) ≡ true
 marked-whole c keys rows next rest n sized w m =
     ap whole (m .remarks rows rest) ∙ remarked-whole c (stands keys rows rest) w (length-map keys (slotAt rows) ∙ sized .slots-long)

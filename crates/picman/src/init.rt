@@ -14,7 +14,9 @@ use keys::Rest;
 
 // Neither keys nor rows are looked at: whatever they hold, they stay.
 pub fn init(rest: Rest, max_pb_size: u8, max_num_ref_pics: u8) -> Called
-    ensures { λ r. ⌜ ((keys rows : List ℕ) → Sized keys rows → Calls r keys rows rest keys rows (initWhole (stands keys rows rest) «max_pb_size» «max_num_ref_pics»)) ⌝ }
+    ensures { λ r. ⌜ ((keys rows : List ℕ) → Sized keys rows
+        → let before = stands keys rows rest in
+        Calls r keys rows rest keys rows (initWhole before «max_pb_size» «max_num_ref_pics»)) ⌝ }
 {
     if (MAX_PB < max_pb_size) | (MAX_REFS < max_num_ref_pics) {
         return refuse(rest, Refusal::SizeTooBig);

@@ -60,7 +60,10 @@ returns c =
     let a = at-loop .before .before .args in
     let l = at-loop .loop in
     at-due (a .poc-next-output) (a .keys .now) (l .i)
-    (sym (l .inv .2) ∙ lowest-hit 0 (keyDue (a .poc-next-output)) (a .keys .now) (l .i) (omega arith) (due (a .poc-next-output) (getD (a .keys .now) (l .i) 0) (sym (c .before .before .is-wanted .ensures) ∙ c .before .if1 .taken) (c .if2 .taken)))
+    (sym (l .inv .2)
+    ∙ lowest-hit 0 (keyDue (a .poc-next-output)) (a .keys .now) (l .i) (omega arith)
+    (due (a .poc-next-output) (getD (a .keys .now) (l .i) 0)
+    (sym (c .before .before .is-wanted .ensures) ∙ c .before .if1 .taken) (c .if2 .taken)))
     (omega arith)
 
 add-i : tie.Need-add-i Inv-loop μ-loop
@@ -76,7 +79,8 @@ loop-again c =
     let l = at-loop .loop in (
       omega arith,
       l .inv .1,
-      lowest-miss 0 (keyDue (a .poc-next-output)) (a .keys .now) (l .i) (omega arith) (not-yet (a .poc-next-output) (getD (a .keys .now) (l .i) 0) (c .if2 .left))
+      lowest-miss 0 (keyDue (a .poc-next-output)) (a .keys .now) (l .i) (omega arith)
+          (not-yet (a .poc-next-output) (getD (a .keys .now) (l .i) 0) (c .if2 .left))
           ∙ l .inv .2,
       sym (any-hit (l .wanted) (anyOf keyWanted (drop (l .i + 1) (a .keys .now))))
           ∙ rw (sym (c .before .if1 .taken) ∙ c .before .before .is-wanted .ensures) (any-step 0 keyWanted (a .keys .now) (l .i) (l .wanted) (omega arith))
@@ -97,7 +101,9 @@ loop-again-2 c =
     let miss : keyWanted (getD (a .keys .now) (l .i) 0) ≡ false = sym (c .before .is-wanted .ensures) ∙ c .if1 .left in (
       omega arith,
       l .inv .1,
-      lowest-miss 0 (keyDue (a .poc-next-output)) (a .keys .now) (l .i) (omega arith) (unwanted (a .poc-next-output) (getD (a .keys .now) (l .i) 0) miss) ∙ l .inv .2,
+      lowest-miss 0 (keyDue (a .poc-next-output)) (a .keys .now) (l .i) (omega arith)
+          (unwanted (a .poc-next-output) (getD (a .keys .now) (l .i) 0) miss)
+          ∙ l .inv .2,
       rw (miss, or-false (l .wanted)) at (any-step 0 keyWanted (a .keys .now) (l .i) (l .wanted) (omega arith)) ∙ l .inv .3,
     )
 

@@ -55,7 +55,8 @@ returns c = λ rows long.
     let d = c .before .before .before .before .before in
     let s = start d in
     let h = hit d (c .before .before .before .before .if1 .taken) in
-    rw (c .before .before .hand-over .ensures .0, c .before .before .hand-over .ensures .1, h .0) (on-due (s .args .keys .now) (s .args .rest) (s .pre .0) rows long (h .1))
+    rw (c .before .before .hand-over .ensures .0, c .before .before .hand-over .ensures .1, h .0)
+    (on-due (s .args .keys .now) (s .args .rest) (s .pre .0) rows long (h .1))
 
 same-length-2 : tie.Need-same-length-2
 same-length-2 c = search needs

@@ -18,7 +18,8 @@ same-length-2 c = search needs
 
 returns : tie.Need-returns
 returns c =
-    let at-take = c .before .before .before .before .before .before in
+    let to-test = c .before in
+    let at-take = to-test .before .before .before .before .before in
     let t = at-take .take-apart .ensures in
     record { tells = c .is-whole .ensures _ ∙ t .same-whole; stands-for = t .same-state; lists-stay = t .lists-stay; sized = t .sized }
 

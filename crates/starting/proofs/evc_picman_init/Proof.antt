@@ -22,7 +22,9 @@ not-whole-requires : tie.Need-not-whole-requires
 not-whole-requires c κs = search needs
 
 -- init with the sizes that came
-defined : (c : tie.After-open-state) → let a = c .before .before .before .args in Defined (λ pm. init pm (a .max-pb-size) (a .max-num-ref-pics)) (λ pm. initWhole pm (a .max-pb-size) (a .max-num-ref-pics))
+defined : (c : tie.After-open-state)
+    → let a = c .before .before .before .args in
+    Defined (λ pm. init pm (a .max-pb-size) (a .max-num-ref-pics)) (λ pm. initWhole pm (a .max-pb-size) (a .max-num-ref-pics))
 defined c = init-defined (c .before .before .before .args .max-pb-size) (c .before .before .before .args .max-num-ref-pics)
 
 -- the state was found to be whole

@@ -39,8 +39,11 @@ out-requires : tie.Need-out-requires
 out-requires c κs =
     let at-test = c .before in
     let at-open = at-test .before .before .before .before in
-    let o = at-open .open-state .ensures in
-    (o .sized .slots-long, numbers-fit (at-open .open-state .last .1 .0) (at-open .open-state .last .1 .1 .0) (at-open .open-state .result .rest) (o .sized .slots-long) (opened-whole o (is-whole at-test)))
+    let o = at-open .open-state .ensures in (
+      o .sized .slots-long,
+      numbers-fit (at-open .open-state .last .1 .0) (at-open .open-state .last .1 .1 .0) (at-open .open-state .result .rest)
+          (o .sized .slots-long) (opened-whole o (is-whole at-test)),
+    )
 
 slice-aggregate-finished : tie.Need-slice-aggregate-finished
 slice-aggregate-finished c = search needs

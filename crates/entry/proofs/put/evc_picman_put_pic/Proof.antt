@@ -29,18 +29,26 @@ open-state-requires c κs = search needs
 not-whole-requires : tie.Need-not-whole-requires
 not-whole-requires c κs = search needs
 
+-- where the lists were taken, and the start
+abbrev listed : tie.After-open-state → tie.After-take-lists
+listed c = c .before .before .before .before
+
+abbrev start : tie.After-open-state → tie.Start
+start c = listed c .before .before
+
 -- the state as it was opened, with the lists that came
 opened : (c : tie.After-open-state)
-    → Opens (c .before .before .before .before .before .before .args .pm) (c .before .before .before .before .before .before .args .refp) (c .open-state .last .1 .0)
-    (c .open-state .last .1 .1 .0) (c .open-state .result)
+    → Opens (start c .args .pm) (start c .args .refp) (c .open-state .last .1 .0) (c .open-state .last .1 .1 .0) (c .open-state .result)
 opened c =
-    let t = c .before .before .before .before .take-lists .ensures in
+    let t = listed c .take-lists .ensures in
     let o = c .open-state .ensures in
     record { tells = o .tells; stands-for = o .stands-for; lists-stay = o .lists-stay ∙ t .lists-are; sized = o .sized }
 
 -- put with the lists and the call that came
-defined : (c : tie.After-open-state) → let a = c .before .before .before .before .before .before .args in Defined (λ pm. put pm (a .refp) (a .call)) (λ pm. putWhole pm (a .refp) (a .call))
-defined c = put-defined (c .before .before .before .before .before .before .args .refp) (c .before .before .before .before .before .before .args .call)
+defined : (c : tie.After-open-state)
+    → let a = start c .args in
+    Defined (λ pm. put pm (a .refp) (a .call)) (λ pm. putWhole pm (a .refp) (a .call))
+defined c = put-defined (start c .args .refp) (start c .args .call)
 
 -- the state was found to be whole
 is-whole : (c : tie.Else1) → c .before .before .before .before .open-state .result .«is_whole» ≡ true
@@ -79,17 +87,18 @@ finished-requires c κs =
     let at-test = at-call .before .before .before .before in
     let at-open = at-test .before .before .before .before in
     let o = opened at-open in
-    let came = put-on-lists o (at-open .before .before .before .before .before .before .args .call) (at-call .put .ensures .comes) in
+    let came = put-on-lists o (start at-open .args .call) (at-call .put .ensures .comes) in
     (came .still-sized, still-whole (defined at-open) o (is-whole at-test) came)
 
 returns-2 : tie.Need-returns-2
 returns-2 c =
-    let at-call = c .before .before .before .before .before .before in
+    let to-finish = c .before in
+    let at-call = to-finish .before .before .before .before .before in
     let at-test = at-call .before .before .before .before in
     let at-open = at-test .before .before .before .before in
     let o = opened at-open in
-    let call = at-open .before .before .before .before .before .before .args .call in
-    c .finished .ensures ∙ comes-to (defined at-open) o (is-whole at-test) (put-on-lists o call (at-call .put .ensures .comes))
+    let came = put-on-lists o (start at-open .args .call) (at-call .put .ensures .comes) in
+    c .finished .ensures ∙ comes-to (defined at-open) o (is-whole at-test) came
 
 pub evc-picman-put-pic-spec : {M : Type 1} → statement M
 evc-picman-put-pic-spec =

@@ -8,7 +8,9 @@ refuse-requires : tie.Need-refuse-requires
 refuse-requires c κs = search needs
 
 returns : tie.Need-returns
-returns c = λ keys rows s. let a = c .before .before .args in rw (c .refuse .ensures) (on-too-big keys rows (a .rest) s (a .max-pb-size) (a .max-num-ref-pics) (c .before .if1 .taken))
+returns c = λ keys rows s.
+    let a = c .before .before .args in
+    rw (c .refuse .ensures) (on-too-big keys rows (a .rest) s (a .max-pb-size) (a .max-num-ref-pics) (c .before .if1 .taken))
 
 returns-2 : tie.Need-returns-2
 returns-2 c = λ keys rows s. let a = c .before .args in on-set keys rows (a .rest) s (a .max-pb-size) (a .max-num-ref-pics) (c .if1 .left)
