@@ -34,7 +34,8 @@ module _ (s : Slot) (rows : List ℕ) (long : length rows ≡ rowsLength) (shape
       pick true false e q = rw (rows-none s e q rows) long
       pick true true e q =
           let b = buffer-below s e q in
-          rw (rows-held s e q rows) (length-paste rows (rowLength * s .buf) (s .pic .«list_poc») rowLength (omega arith) (omega (arith, shaped .row-long)) ∙ long)
+          rw (rows-held s e q rows)
+          (length-paste rows (rowLength * s .buf) (s .pic .«list_poc») rowLength (omega arith) (omega (arith, shaped .row-long)) ∙ long)
 
   -- no row but the buffer's own changes, and not the lists
   with-other : (c : ℕ) → (s .present ≡ true → c ≡ s .buf → ⊥) → rowAt (rowsWith rows s) c ≡ rowAt rows c
@@ -45,7 +46,8 @@ module _ (s : Slot) (rows : List ℕ) (long : length rows ≡ rowsLength) (shape
       pick true false e q = rw (rows-none s e q rows) refl
       pick true true e q =
           let b = buffer-below s e q in
-          rw (rows-held s e q rows) (row-other rows (s .buf) (s .pic .«list_poc») rowLength long (omega arith) (omega arith) (omega (arith, shaped .row-long)) c (n q))
+          rw (rows-held s e q rows)
+          (row-other rows (s .buf) (s .pic .«list_poc») rowLength long (omega arith) (omega arith) (omega (arith, shaped .row-long)) c (n q))
 
   with-lists : listsIn (rowsWith rows s) ≡ listsIn rows
   with-lists = pick (slotFits s) (s .present) refl refl
@@ -88,7 +90,8 @@ later-held s ss {c} m = pick (s .present)
     pick false = m
 
 -- The row of a buffer that none of the slots holds.
-rows-other : (ss : List Slot) (rows : List ℕ) → length rows ≡ rowsLength → AllShaped ss → (c : ℕ) → (List·Memᴰ c (buffersOf ss) → ⊥) → rowAt (rowsOf rows ss) c ≡ rowAt rows c
+rows-other : (ss : List Slot) (rows : List ℕ) → length rows ≡ rowsLength → AllShaped ss → (c : ℕ)
+    → (List·Memᴰ c (buffersOf ss) → ⊥) → rowAt (rowsOf rows ss) c ≡ rowAt rows c
 unfolding rowsOf
 rows-other [] rows l h c n = refl
 rows-other (s ∷ ss) rows l h c n =
@@ -116,7 +119,8 @@ all-zero : (ns : List ℕ) → ((n : ℕ) → List·Memᴰ n ns → n ≡ 0) →
 all-zero [] h = refl
 all-zero (n ∷ ns) h = ap₂ (λ (x : ℕ) (xs : List ℕ). x ∷ xs) (h n (List·Memᴰ·head refl)) (all-zero ns (holds-tail h))
 
-slot-is : (s : Slot) (p r w : Bool) (b n l : ℕ) (ns : List ℕ) → s .present ≡ p → s .buf ≡ b → s .pic .poc ≡ n → s .pic .«is_ref» ≡ r → s .pic .«need_for_out» ≡ w
+slot-is : (s : Slot) (p r w : Bool) (b n l : ℕ) (ns : List ℕ) → s .present ≡ p → s .buf ≡ b → s .pic .poc ≡ n
+    → s .pic .«is_ref» ≡ r → s .pic .«need_for_out» ≡ w
     → s .pic .«temporal_id» ≡ l → s .pic .«list_poc» ≡ ns
     → s ≡ record { present = p; buf = b; pic = record { poc = n; «is_ref» = r; «need_for_out» = w; «temporal_id» = l; «list_poc» = ns } }
 slot-is s p r w b n l ns e1 e2 e3 e4 e5 e6 e7 =
@@ -131,7 +135,15 @@ module _ (s : Slot) (fits : slotFits s ≡ true) (shaped : Shaped s) where
 
   held-read : (rows : List ℕ) → s .present ≡ true
       → slotAt rows (keyFor s)
-      ≡ occupiedBy (record { poc = s .pic .poc; «is_ref» = s .pic .«is_ref»; «need_for_out» = s .pic .«need_for_out»; «temporal_id» = s .pic .«temporal_id»; «list_poc» = rowAt rows (s .buf) }) (s .buf)
+      ≡ occupiedBy
+      (record {
+        poc = s .pic .poc;
+        «is_ref» = s .pic .«is_ref»;
+        «need_for_out» = s .pic .«need_for_out»;
+        «temporal_id» = s .pic .«temporal_id»;
+        «list_poc» = rowAt rows (s .buf);
+      })
+      (s .buf)
   held-read rows p =
       let b = buffer-below s fits p in
       ap (slotAt rows) (key-held s fits p)
@@ -152,7 +164,8 @@ module _ (s : Slot) (fits : slotFits s ≡ true) (shaped : Shaped s) where
       pick false p = ap (slotAt rows) (key-none s fits p) ∙ sym (empty-is p)
 
 -- Where the buffer numbers differ each slot is read back.
-pub slots-read : (ss : List Slot) (rows : List ℕ) → length rows ≡ rowsLength → AllShaped ss → ((s : Slot) → List·Memᴰ s ss → slotFits s ≡ true) → Distinct (buffersOf ss)
+pub slots-read : (ss : List Slot) (rows : List ℕ) → length rows ≡ rowsLength → AllShaped ss
+    → ((s : Slot) → List·Memᴰ s ss → slotFits s ≡ true) → Distinct (buffersOf ss)
     → (s : Slot) → List·Memᴰ s ss → slotAt (rowsOf rows ss) (keyFor s) ≡ s
 unfolding rowsOf select Distinct
 slots-read [] rows l h f d s m = absurd (List·Memᴰ·not-nil m)

@@ -176,7 +176,12 @@ module _ (pm : EvcPm) (rows : List ℕ) (long : length rows ≡ rowsLength) (sha
   back w = slots-read (places pm) rows long shaped (λ s m. all-true slotFits (places pm) (fits-where-whole w) m) (whole-rules pm w .buffers-differ)
 
   pub state-same : whole pm ≡ true → q ≡ pm
-  state-same w = rw (pics-are ∙ map-back (pm .pic) (λ s m. back w s (Memᴰ·append-left (pm .«pic_lease» ∷ []) m)), back w (pm .«pic_lease») (Memᴰ·append-right (pm .pic) (List·Memᴰ·head refl))) refl
+  state-same w =
+      rw (
+        pics-are ∙ map-back (pm .pic) (λ s m. back w s (Memᴰ·append-left (pm .«pic_lease» ∷ []) m)),
+        back w (pm .«pic_lease») (Memᴰ·append-right (pm .pic) (List·Memᴰ·head refl)),
+      )
+      refl
     where
       map-back : (ss : List Slot) → ((s : Slot) → List·Memᴰ s ss → readBack s ≡ s) → map readBack ss ≡ ss
       map-back [] h = refl
@@ -201,7 +206,8 @@ rows-last rows (x ∷ ss) s = rows-last (rowsWith rows x) ss s
 pub apart-done : (pm : EvcPm) (rows keys between after : List ℕ) (k : ℕ) → length rows ≡ rowsLength → TakenSlots (pm .pic) keys rows between
     → TakenSlot (pm .«pic_lease») k between after → TakenApart pm (listsIn rows) keys after (restWith pm k)
 apart-done pm rows keys between after k long t l =
-    let rs : after ≡ rowsOf rows (places pm) = l .rows-are ∙ ap (λ (r : List ℕ). rowsWith r (pm .«pic_lease»)) (t .rows-are) ∙ rows-last rows (pm .pic) (pm .«pic_lease») in
+    let rs : after ≡ rowsOf rows (places pm) =
+    l .rows-are ∙ ap (λ (r : List ℕ). rowsWith r (pm .«pic_lease»)) (t .rows-are) ∙ rows-last rows (pm .pic) (pm .«pic_lease») in
     rw (rs, t .keys-are, l .key-is) (taken-apart pm rows long shaped (t .slots-long))
   where
     shaped : (s : Slot) → List·Memᴰ s (places pm) → Shaped s
@@ -229,7 +235,9 @@ module _ (ss : List Slot) (before keys : List ℕ) where
     record {
       keys-so-far = rw (a .key-is) (fill-turn keyFor noSlot ss keys i (omega arith) (omega (arith, sized .slots-long)) (t .keys-so-far));
       rows-so-far = rw (a .rows-are) (rw (drop-step noSlot ss i (omega arith)) at (t .rows-so-far));
-      shaped-so-far = λ u m. ⊎-elim (t .shaped-so-far u) (λ n. let e : u ≡ getD ss i noSlot = List·Memᴰ·eq-of-singleton n in rw e (a .shaped)) (List·Memᴰ·append-cases (take i ss) (rw (add-one i, take-suc ss i noSlot (omega arith)) at m));
+      shaped-so-far = λ u m.
+          ⊎-elim (t .shaped-so-far u) (λ n. let e : u ≡ getD ss i noSlot = List·Memᴰ·eq-of-singleton n in rw e (a .shaped))
+          (List·Memᴰ·append-cases (take i ss) (rw (add-one i, take-suc ss i noSlot (omega arith)) at m));
     },
   )
     where

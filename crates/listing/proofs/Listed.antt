@@ -23,7 +23,8 @@ module _ {pm : EvcPm} {refp : List EvcRefP} {keys rows : List ℕ} {o : Opened} 
   unfolding lists
   whole-lists w = rw w refl
 
-  module _ (e : o .«is_whole» ≡ true) {r : Called} {after : List ℕ} (came : ComesLists r keys after (listsWhole (stands keys rows (o .rest)) (listsIn rows) c)) where
+  module _ (e : o .«is_whole» ≡ true) {r : Called} {after : List ℕ}
+      (came : ComesLists r keys after (listsWhole (stands keys rows (o .rest)) (listsIn rows) c)) where
     on-whole : lists pm refp c ≡ listsWhole (stands keys rows (o .rest)) (listsIn rows) c
     on-whole =
         whole-lists (came-whole p e) ∙ ap₂ (λ (q : EvcPm) (es : List EvcRefP). listsWhole q es c) (sym (opened-is p e)) (sym (p .lists-stay))

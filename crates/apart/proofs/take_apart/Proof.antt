@@ -19,8 +19,10 @@ same-length-2 c = search needs
 returns : tie.Need-returns
 returns c =
     let at-lease = c .before .before in
-    let at-slots = at-lease .before .before .before .before .before .before in
-    let s = at-slots .before .before .before .before .before .before .before in
+    let to-lease = at-lease .before in
+    let at-slots = to-lease .before .before .before .before .before in
+    let to-slots = at-slots .before .before in
+    let s = to-slots .before .before .before .before .before in
     apart-done (s .args .pm) (s .args .rows .now) _ _ _ _ (s .pre .rows-long) (at-slots .take-slots .ensures) (at-lease .take-slot .ensures)
 
 pub take-apart-spec : {M : Type 1} → statement M

@@ -20,17 +20,22 @@ wide : (c : tie.Start) → length (c .args .entry .«list_poc») ≡ rowLength
 wide c = search needs
 
 stored : (c : tie.After-slice-known2)
-    → EntryStored (c .before .before .before .before .before .before .before .before .args .rows .now) (c .before .before .write-row .last .0)
-    (c .before .before .before .before .before .before .before .before .args .j) (c .before .before .before .before .before .before .before .before .args .entry)
+    → let at-write = c .before .before in
+    let at-head = at-write .before .before .before in
+    let s = at-head .before .before .before in
+    EntryStored (s .args .rows .now) (at-write .write-row .last .0) (s .args .j) (s .args .entry)
 stored c =
     let at-write = c .before .before in
     let at-head = at-write .before .before .before in
     let s = at-head .before .before .before in
+    let rows = s .args .rows .now in
+    let j = s .args .j in
     let e = s .args .entry in
+    let headed = set (set rows (rowLength * headRow + j) (headOf e)) (rowLength * numberRow + j) (e .poc) in
     rw (at-write .write-row .ensures, at-head .head-of .ensures)
-    (subst (λ (x : EvcRefP). EntryStored (s .args .rows .now)
-    (paste (set (set (s .args .rows .now) (rowLength * headRow + s .args .j) (headOf e)) (rowLength * numberRow + s .args .j) (e .poc)) (rowLength * (entryRow + s .args .j)) (e .«list_poc») rowLength) (s .args .j) x)
-    (entry-parts e (low s)) (entry-stored (s .args .rows .now) (s .pre .0) (s .args .j) (s .pre .1) (headOf e) (e .poc) (e .«list_poc») (wide s)))
+    (subst (λ (x : EvcRefP). EntryStored rows (paste headed (rowLength * (entryRow + j)) (e .«list_poc») rowLength) j x)
+    (entry-parts e (low s))
+    (entry-stored rows (s .pre .0) j (s .pre .1) (headOf e) (e .poc) (e .«list_poc») (wide s)))
 
 head-of-requires : tie.Need-head-of-requires
 head-of-requires c κs = search needs
@@ -68,7 +73,10 @@ write-row-requires c κs =
     (simp (length-set, length-set) (s .pre .0), wide s, let h = s .pre .1 in omega arith)
 
 same-length : tie.Need-same-length
-same-length c = stored c .rows-long ∙ sym (c .before .before .before .before .before .before .before .before .pre .0)
+same-length c =
+    let at-head-of = c .before .before .before .before .before in
+    let start = at-head-of .before .before .before in
+    stored c .rows-long ∙ sym (start .pre .0)
 
 returns : tie.Need-returns
 returns c = stored c

@@ -33,7 +33,12 @@ loop-less : tie.Need-loop-less Inv-loop μ-loop
 loop-less c = omega arith
 
 loop-again : tie.Need-loop-again Inv-loop μ-loop
-loop-again c = (omega arith, omega arith, all-step 0 (λ n. eqb n 0) (c .before .before .args .t1) (c .before .loop .i) (c .before .loop .ok) (omega arith) ∙ c .before .loop .inv .2)
+loop-again c = (
+  omega arith,
+  omega arith,
+  all-step 0 (λ n. eqb n 0) (c .before .before .args .t1) (c .before .loop .i) (c .before .loop .ok) (omega arith)
+      ∙ c .before .loop .inv .2,
+)
 
 returns : tie.Need-returns Inv-loop μ-loop
 returns c = sym (all-end 0 (λ n. eqb n 0) (c .before .before .args .t1) (c .before .loop .i) (c .before .loop .ok) (omega arith)) ∙ c .before .loop .inv .2

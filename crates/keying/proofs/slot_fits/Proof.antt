@@ -12,7 +12,10 @@ numbers-are-zero-requires : tie.Need-numbers-are-zero-requires
 numbers-are-zero-requires c κs = search needs
 
 returns-2 : tie.Need-returns-2
-returns-2 c = rw (c .before .before .before .before .before .before .before .before .if1 .left, c .numbers-are-zero .ensures) (sym (and-true _))
+returns-2 c =
+    let at-fields = c .before .before .before .before .before in
+    let tested = at-fields .before .before .before in
+    rw (tested .if1 .left, c .numbers-are-zero .ensures) (sym (and-true _))
 
 pub slot-fits-spec : {M : Type 1} → statement M
 slot-fits-spec = tie.close (tie.spec returns numbers-are-zero-requires returns-2)

@@ -51,7 +51,8 @@ write-row-requires c κs =
 key-of-requires : tie.Need-key-of-requires
 key-of-requires c κs =
     let at-write = c .before .before in
-    let b = below (at-write .before .before .before .before .before .before) in
+    let to-write = at-write .before in
+    let b = below (to-write .before .before .before .before .before) in
     omega arith
 
 same-length : tie.Need-same-length
@@ -60,7 +61,8 @@ same-length c = search needs
 returns-3 : tie.Need-returns-3
 returns-3 c =
     let at-write = c .before .before .before in
-    let at-picture = at-write .before .before .before .before .before .before in
+    let to-write = at-write .before in
+    let at-picture = to-write .before .before .before .before .before in
     let s = at-picture .before .before .before .before .before in
     let e = fits (at-picture .before .before) in
     let p = not-false _ (at-picture .if2 .left) in

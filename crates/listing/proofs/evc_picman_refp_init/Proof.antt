@@ -24,12 +24,18 @@ slice-aggregate-open-state-2 c = search needs
 open-state-requires : tie.Need-open-state-requires
 open-state-requires c κs = search needs
 
+-- where the lists were taken, and the start
+abbrev listed : tie.After-open-state → tie.After-take-lists
+listed c = c .before .before .before .before
+
+abbrev start : tie.After-open-state → tie.Start
+start c = listed c .before .before
+
 -- the state as it was opened, with the lists that came
 opened : (c : tie.After-open-state)
-    → Opens (c .before .before .before .before .before .before .args .pm) (c .before .before .before .before .before .before .args .refp) (c .open-state .last .1 .0)
-    (c .open-state .last .1 .1 .0) (c .open-state .result)
+    → Opens (start c .args .pm) (start c .args .refp) (c .open-state .last .1 .0) (c .open-state .last .1 .1 .0) (c .open-state .result)
 opened c =
-    let t = c .before .before .before .before .take-lists .ensures in
+    let t = listed c .take-lists .ensures in
     let o = c .open-state .ensures in
     record { tells = o .tells; stands-for = o .stands-for; lists-stay = o .lists-stay ∙ t .lists-are; sized = o .sized }
 

@@ -48,8 +48,10 @@ loop-less c = omega arith
 
 loop-again : tie.Need-loop-again Inv-loop μ-loop
 loop-again c =
-    let l = c .before .before .before .loop in
-    let a = c .before .before .before .before .before .before .before .args in (
+    let at-loop = c .before .before .before in
+    let start = at-loop .before .before .before .before in
+    let l = at-loop .loop in
+    let a = start .args in (
       omega arith,
       l .inv .1,
       l .inv .2,
