@@ -47,7 +47,9 @@ module _ (c : RefpCall) (ks fwd bwd : List Key) where
   accepted e = go (ltb listPlaces (length ks)) (eqb (length ks) 0) refl refl e
     where
       go : (m z : Bool) → ltb listPlaces (length ks) ≡ m → eqb (length ks) 0 ≡ z
-          → cond m (turned-down TooManyReferences) (cond z (turned-down NoReferences) (withForward (isB (c .«slice_type»)) (backwardOf c ks) (forwardOf c ks))) ≡ chosen fwd bwd
+          → cond m (turned-down TooManyReferences)
+          (cond z (turned-down NoReferences) (withForward (isB (c .«slice_type»)) (backwardOf c ks) (forwardOf c ks)))
+          ≡ chosen fwd bwd
           → Accepted c ks fwd bwd
       go true z p q e = absurd (clash e)
       go false true p q e = absurd (clash e)

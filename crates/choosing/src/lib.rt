@@ -103,8 +103,12 @@ pub fn refp_choose(
     list: &mut [u64; PLACES],
     call: RefpCall,
 ) -> Answer
-    requires { ⌜ (length (now keys) ≡ slots) × (length (now «pic_ref») ≡ slots) × (length (now list) ≡ listPlaces + listPlaces) ⌝ }
-    ensures { λ r. ⌜ ((rows : List ℕ) → Decided r (now (list .exit)) (choice call (down (map (slotAt rows) (now (keys .entry)))))) ⌝ }
+    requires { ⌜ (length (now keys) ≡ slots)
+        × (length (now «pic_ref») ≡ slots)
+        × (length (now list) ≡ listPlaces + listPlaces) ⌝ }
+    ensures { λ r. ⌜ ((rows : List ℕ)
+        → let pics = map (slotAt rows) (now (keys .entry)) in
+        Decided r (now (list .exit)) (choice call (down pics))) ⌝ }
 {
     let num = picman_update_pic_ref(keys, pic_ref);
     choose(pic_ref, num, list, call)

@@ -34,7 +34,8 @@ module _ (a : Ask) (up : Bool) where
       pick false room t = rw (le-ltb cnt (a .limit) (let z = ltb-false 0 (a .limit) room in omega arith))
 
   -- what is taken from the empty list stays
-  taken-stays : (bound : ℕ) (k : Key) (ks : List Key) → takesKey a up 0 bound k ≡ true → passOn a up (stepOn a up (record { list = []; bound = bound }) k) ks .list ≡ [] → ⊥
+  taken-stays : (bound : ℕ) (k : Key) (ks : List Key) → takesKey a up 0 bound k ≡ true
+      → passOn a up (stepOn a up (record { list = []; bound = bound }) k) ks .list ≡ [] → ⊥
   taken-stays bound k ks t e =
       let p : Progress = record { list = []; bound = bound } in
       let g = pass-grows a up (stepOn a up p k) ks in
@@ -42,7 +43,8 @@ module _ (a : Ask) (up : Bool) where
       let n = ap length (no-front (stepOn a up p k .list) (g .more) (sym e ∙ g .split)) in
       omega arith
 
-  nothing-on : (bound : ℕ) (list ks : List Key) → passOn a up (record { list = []; bound = bound }) ks .list ≡ [] → passOn a up (record { list = list; bound = bound }) ks .list ≡ list
+  nothing-on : (bound : ℕ) (list ks : List Key) → passOn a up (record { list = []; bound = bound }) ks .list ≡ []
+      → passOn a up (record { list = list; bound = bound }) ks .list ≡ list
   unfolding passOn
   nothing-on bound list [] e = refl
   nothing-on bound list (k ∷ ks) e = pick (takesKey a up 0 bound k) refl (nothing-on bound list ks)

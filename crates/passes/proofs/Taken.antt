@@ -50,10 +50,13 @@ module _ (a : Ask) (up : Bool) where
   pub taken-side : (cnt bound : ℕ) (k : Key) → takesKey a up cnt bound k ≡ true → (cnt < a .limit) × (sideOf up (a .poc) k ≡ true)
   taken-side cnt bound k t =
       let side = sideOf up (a .poc) k && leb (k .layer) bound in
-      let rest = and-right (ltb cnt (a .limit)) (not (a .old k) && side) t in
-      (ltb-true cnt (a .limit) (and-left (ltb cnt (a .limit)) (not (a .old k) && side) t), and-left (sideOf up (a .poc) k) (leb (k .layer) bound) (and-right (not (a .old k)) side rest))
+      let rest = and-right (ltb cnt (a .limit)) (not (a .old k) && side) t in (
+        ltb-true cnt (a .limit) (and-left (ltb cnt (a .limit)) (not (a .old k) && side) t),
+        and-left (sideOf up (a .poc) k) (leb (k .layer) bound) (and-right (not (a .old k)) side rest),
+      )
 
-  one-more : (k : Key) (ks list out : List Key) → length list < a .limit → sideOf up (a .poc) k ≡ true → Grown a up ks (list ++ (k ∷ [])) out → Grown a up (k ∷ ks) list out
+  one-more : (k : Key) (ks list out : List Key) → length list < a .limit → sideOf up (a .poc) k ≡ true
+      → Grown a up ks (list ++ (k ∷ [])) out → Grown a up (k ∷ ks) list out
   one-more k ks list out room t g =
       record {
         more = k ∷ g .more;
@@ -107,22 +110,31 @@ module _ (a : Ask) (up : Bool) (ks : List Key) where
         few = (let h = more-few g in let e = ap length (g .split) in let n = count-length (sideOf up (a .poc)) ks in omega arith);
       }
 
-module _ (a : Ask) (up : Bool) (ks : List Key) {mid out : List Key} (g : Grown a up (walked up ks) [] mid) (h : Grown a (not up) (walked (not up) ks) mid out) where
+module _ (a : Ask) (up : Bool) (ks : List Key) {mid out : List Key} (g : Grown a up (walked up ks) [] mid)
+    (h : Grown a (not up) (walked (not up) ks) mid out) where
   both-split : out ≡ g .more ++ h .more
   both-split = h .split ∙ ap (λ (l : List Key). l ++ h .more) (g .split)
 
   both-members : (k : Key) → List·Memᴰ k (g .more ++ h .more) → List·Memᴰ k ks
-  both-members k m = ⊎-elim (λ n. walked-mem up ks (sublist-mem (g .inside) n)) (λ n. walked-mem (not up) ks (sublist-mem (h .inside) n)) (List·Memᴰ·append-cases (g .more) m)
+  both-members k m =
+      ⊎-elim (λ n. walked-mem up ks (sublist-mem (g .inside) n)) (λ n. walked-mem (not up) ks (sublist-mem (h .inside) n))
+      (List·Memᴰ·append-cases (g .more) m)
 
   two-passes : Taken (a .limit) ks out
   two-passes =
       record {
         members = λ k m. both-members k (subst (List·Memᴰ k) both-split m);
         once = λ d. subst Distinct (sym both-split)
-            (distinct-append (g .more) (h .more) (sublist-distinct (g .inside) (walked-distinct up ks d)) (sublist-distinct (h .inside) (walked-distinct (not up) ks d))
+            (distinct-append (g .more) (h .more) (sublist-distinct (g .inside) (walked-distinct up ks d))
+            (sublist-distinct (h .inside) (walked-distinct (not up) ks d))
             (λ k m n. Bool.true≢false (sym (h .on-side k n) ∙ one-side up (a .poc) k (g .on-side k m))));
         limited = h .limited (g .limited (omega arith));
-        few = (let e = ap length both-split ∙ length-append (g .more) (h .more) in let m = more-few a up ks g in let n = more-few a (not up) ks h in let s = sides-count up (a .poc) ks in omega arith);
+        few =
+            (let e = ap length both-split ∙ length-append (g .more) (h .more) in
+            let m = more-few a up ks g in
+            let n = more-few a (not up) ks h in
+            let s = sides-count up (a .poc) ks in
+            omega arith);
       }
 
 both-taken : (a : Ask) (up : Bool) (ks : List Key) → Taken (a .limit) ks (bothWays a up ks)
