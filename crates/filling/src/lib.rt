@@ -30,7 +30,9 @@ pub fn refp_init(
     rest: Rest,
     call: RefpCall,
 ) -> Called
-    requires { ⌜ Sized (now keys) (now rows) × (length (now «pic_ref») ≡ slots) × (length (now list) ≡ listPlaces + listPlaces) ⌝ }
+    requires { ⌜ Sized (now keys) (now rows)
+        × (length (now «pic_ref») ≡ slots)
+        × (length (now list) ≡ listPlaces + listPlaces) ⌝ }
     requires { ⌜ whole (stands (now keys) (now rows) rest) ≡ true ⌝ }
     ensures { λ r. ⌜ ListsCame r (now (keys .entry)) (now (rows .entry)) (now (rows .exit)) rest call ⌝ }
 {

@@ -41,7 +41,8 @@ module _ (refp : List EvcRefP) (cnt lidx : ℕ) (src : EvcRefP) where
     where
       pick : (a : Bool) → ltb 20 cnt ≡ a → (b : Bool) → ltb 1 lidx ≡ b → (s : Bool) → anyOf same first ≡ s
           → CopyEnd refp cnt lidx src (cond (a || b) (record { answer = Answer.Refused Refusal.NoSuchPlace; refp = refp })
-          (cond s (record { answer = Answer.Refused Refusal.SameNumber; refp = refp }) (record { answer = Answer.Done; refp = set refp (lidx * listPlaces + cnt) src })))
+          (cond s (record { answer = Answer.Refused Refusal.SameNumber; refp = refp })
+          (record { answer = Answer.Done; refp = set refp (lidx * listPlaces + cnt) src })))
       pick true p b q s e = refuses Refusal.NoSuchPlace (no-place (inl (ltb-true 20 cnt p)))
       pick false p true q s e = refuses Refusal.NoSuchPlace (no-place (inr (ltb-true 1 lidx q)))
       pick false p false q true e = refuses Refusal.SameNumber (one-has-it (ltb-false 20 cnt p) (ltb-false 1 lidx q) e)

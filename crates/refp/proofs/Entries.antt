@@ -71,9 +71,11 @@ module _ (rows : List ℕ) (long : length rows ≡ rowsLength) (j : ℕ) (h : j 
   marked-row : (c : ℕ) → (c < headRow) ⊎ (entryRow ≤ c) → rowAt marked c ≡ rowAt rows c
   unfolding marked
   marked-row c (inl l) =
-      row-set (set rows (rowLength * headRow + j) head) (rowLength * numberRow + j) poc c (inr (omega arith)) ∙ row-set rows (rowLength * headRow + j) head c (inr (omega arith))
+      row-set (set rows (rowLength * headRow + j) head) (rowLength * numberRow + j) poc c (inr (omega arith))
+      ∙ row-set rows (rowLength * headRow + j) head c (inr (omega arith))
   marked-row c (inr l) =
-      row-set (set rows (rowLength * headRow + j) head) (rowLength * numberRow + j) poc c (inl (omega arith)) ∙ row-set rows (rowLength * headRow + j) head c (inl (omega arith))
+      row-set (set rows (rowLength * headRow + j) head) (rowLength * numberRow + j) poc c (inl (omega arith))
+      ∙ row-set rows (rowLength * headRow + j) head c (inl (omega arith))
 
   module _ (numbers : List ℕ) (wide : length numbers ≡ rowLength) where
     stored : List ℕ
@@ -97,7 +99,8 @@ module _ (rows : List ℕ) (long : length rows ≡ rowsLength) (j : ℕ) (h : j 
         ∙ getD-set-other (set rows (rowLength * headRow + j) head) (rowLength * numberRow + j) (rowLength * headRow + j) poc 0 (λ e. omega arith)
         ∙ getD-set-same rows (rowLength * headRow + j) head 0 (omega arith))
         (stored-front (rowLength * numberRow + j) (omega arith)
-        ∙ getD-set-same (set rows (rowLength * headRow + j) head) (rowLength * numberRow + j) poc 0 (omega (arith, length-set rows (rowLength * headRow + j) head)))
+        ∙ getD-set-same (set rows (rowLength * headRow + j) head) (rowLength * numberRow + j) poc 0
+        (omega (arith, length-set rows (rowLength * headRow + j) head)))
         (row-whole marked (entryRow + j) numbers marked-long (omega arith) wide)
 
     there : (i : ℕ) → i < listPlaces + listPlaces → (i ≡ j → ⊥) → entryAt stored i ≡ entryAt rows i
@@ -112,8 +115,9 @@ module _ (rows : List ℕ) (long : length rows ≡ rowsLength) (j : ℕ) (h : j 
         ∙ getD-set-other rows (rowLength * headRow + j) (rowLength * numberRow + i) head 0 (λ e. omega arith))
         (stored-row (entryRow + i) (λ e. other (omega arith)) (inr (omega arith)))
 
-    pub entry-stored : EntryStored rows (paste (set (set rows (rowLength * headRow + j) head) (rowLength * numberRow + j) poc) (rowLength * (entryRow + j)) numbers rowLength) j
-        (entryWith head poc numbers)
+    pub entry-stored : EntryStored rows
+        (paste (set (set rows (rowLength * headRow + j) head) (rowLength * numberRow + j) poc) (rowLength * (entryRow + j)) numbers rowLength)
+        j (entryWith head poc numbers)
     unfolding stored marked
     entry-stored = record {
       lists-are =
@@ -135,19 +139,23 @@ module _ (rows : List ℕ) (long : length rows ≡ rowsLength) (j : ℕ) (h : j 
       → after ≡ paste mid (rowLength * (entryRow + j)) (rowAt mid b) rowLength → EntryStored rows after j (entryWith head poc (rowAt rows b))
   unfolding marked
   picture-stored mid after b l m e =
-      subst (λ (x : List ℕ). EntryStored rows x j (entryWith head poc (rowAt rows b))) (sym (e ∙ ap (λ (x : List ℕ). paste x (rowLength * (entryRow + j)) (rowAt x b) rowLength) m))
-      (subst (λ (ns : List ℕ). EntryStored rows (paste marked (rowLength * (entryRow + j)) (rowAt marked b) rowLength) j (entryWith head poc ns)) (marked-row b (inl l))
+      subst (λ (x : List ℕ). EntryStored rows x j (entryWith head poc (rowAt rows b)))
+      (sym (e ∙ ap (λ (x : List ℕ). paste x (rowLength * (entryRow + j)) (rowAt x b) rowLength) m))
+      (subst (λ (ns : List ℕ). EntryStored rows (paste marked (rowLength * (entryRow + j)) (rowAt marked b) rowLength) j (entryWith head poc ns))
+      (marked-row b (inl l))
       (entry-stored (rowAt marked b) (row-length marked b marked-long (omega arith))))
 
 -- ---- all entries dropped
 
 -- heads and numbers of the entries by their rows
 front-or-back : (rows : List ℕ) (first i : ℕ) → i < listPlaces + listPlaces
-    → ((c : ℕ) × (k : ℕ) × (k < 21) × ((c ≡ first) ⊎ (c ≡ first + 1)) × (getD rows (21 * first + i) 0 ≡ getD (rowAt rows c) k 0) × (21 * first + i ≡ 21 * c + k))
+    → ((c : ℕ) × (k : ℕ) × (k < 21) × ((c ≡ first) ⊎ (c ≡ first + 1))
+    × (getD rows (21 * first + i) 0 ≡ getD (rowAt rows c) k 0) × (21 * first + i ≡ 21 * c + k))
 front-or-back rows first i h = pick (lt-or-ge i 21)
   where
     pick : (i < 21) ⊎ (21 ≤ i)
-        → ((c : ℕ) × (k : ℕ) × (k < 21) × ((c ≡ first) ⊎ (c ≡ first + 1)) × (getD rows (21 * first + i) 0 ≡ getD (rowAt rows c) k 0) × (21 * first + i ≡ 21 * c + k))
+        → ((c : ℕ) × (k : ℕ) × (k < 21) × ((c ≡ first) ⊎ (c ≡ first + 1))
+        × (getD rows (21 * first + i) 0 ≡ getD (rowAt rows c) k 0) × (21 * first + i ≡ 21 * c + k))
     pick (inl l) = (first, i, l, inl refl, sym (row-number rows first i l), refl)
     pick (inr l) =
         let e : 21 * first + i ≡ 21 * (first + 1) + (i - 21) = omega arith in
@@ -174,7 +182,9 @@ module _ (rows : List ℕ) (long : length rows ≡ rowsLength) where
   head-row : (c : ℕ) → (c ≡ headRow) ⊎ (c ≡ headRow + 1) → rowAt twice c ≡ zeros
   unfolding once twice zeros
   head-row c (inl e) =
-      rw e (row-other once (headRow + 1) zeros rowLength once-long (lit≤ tt) (lit≤ tt) (lit≤ tt) headRow (λ x. omega arith) ∙ row-whole rows headRow zeros long (lit≤ tt) refl)
+      rw e
+      (row-other once (headRow + 1) zeros rowLength once-long (lit≤ tt) (lit≤ tt) (lit≤ tt) headRow (λ x. omega arith)
+      ∙ row-whole rows headRow zeros long (lit≤ tt) refl)
   head-row c (inr e) = rw e (row-whole once (headRow + 1) zeros once-long (lit≤ tt) refl)
 
   other-row : (c : ℕ) → (c < headRow) ⊎ (numberRow ≤ c) → rowAt twice c ≡ rowAt rows c
@@ -201,7 +211,8 @@ module _ (rows : List ℕ) (long : length rows ≡ rowsLength) where
       f .4 ∙ ap (λ (l : List ℕ). getD l (f .1) 0) (other-row (f .0) (inr (⊎-elim (λ e. omega arith) (λ e. omega arith) (f .3))))
       ∙ row-number rows (f .0) (f .1) (f .2) ∙ ap (λ (n : ℕ). getD rows n 0) (sym (f .5))
 
-  pub entries-dropped : Dropped rows (paste (paste rows (rowLength * headRow) (replicate rowLength 0) rowLength) (rowLength * (headRow + 1)) (replicate rowLength 0) rowLength)
+  pub entries-dropped : Dropped rows
+      (paste (paste rows (rowLength * headRow) (replicate rowLength 0) rowLength) (rowLength * (headRow + 1)) (replicate rowLength 0) rowLength)
   unfolding once twice zeros
   entries-dropped = record {
     lists-are =

@@ -81,7 +81,8 @@ module _ (pm : EvcPm) (refp : List EvcRefP) (c : RefpCall) where
       pick : (m : Bool) → ltb listPlaces (length order) ≡ m → (z : Bool) → eqb (length order) 0 ≡ z
           → ListsEnd pm refp c (listsChosen pm refp (cond m (turned-down Refusal.TooManyReferences)
           (cond z (turned-down Refusal.NoReferences) (withForward (isB (c .«slice_type»)) bwd fwd))))
-      pick true m z n = refuses Refusal.TooManyReferences (too-many-marked a (let h = ltb-true listPlaces (length order) m in let e = marked-length in omega arith))
+      pick true m z n =
+          refuses Refusal.TooManyReferences (too-many-marked a (let h = ltb-true listPlaces (length order) m in let e = marked-length in omega arith))
       pick false m true n = refuses Refusal.NoReferences (none-marked a (sym marked-length ∙ eqb-true (length order) 0 n))
       pick false m false n =
           passes-end
@@ -179,10 +180,13 @@ lists-stay-whole pm refp c h = pick (lists-end pm refp c)
 same-slot : (xs : List Slot) (k h : Key) → MarkedKey xs k → MarkedKey xs h → k .slot ≡ h .slot → k ≡ h
 same-slot xs k h a b e = a .key ∙ (λ i. keyOf (e i) (getD xs (e i) noSlot)) ∙ sym (b .key)
 
-taken-holds : (pm : EvcPm) (c : RefpCall) (ks : List Key) → length (down (pm .pic)) ≤ listPlaces → Taken (c .«max_num_ref_pics») (down (pm .pic)) ks → Holds pm c ks
+taken-holds : (pm : EvcPm) (c : RefpCall) (ks : List Key) → length (down (pm .pic)) ≤ listPlaces
+    → Taken (c .«max_num_ref_pics») (down (pm .pic)) ks → Holds pm c ks
 taken-holds pm c ks n t = record {
   marked = is-marked;
-  each-once = distinct-map (λ (k : Key). k .slot) ks (λ k h m o e. same-slot (pm .pic) k h (is-marked k m) (is-marked h o) e) (t .once (down-distinct (pm .pic)));
+  each-once =
+      distinct-map (λ (k : Key). k .slot) ks (λ k h m o e. same-slot (pm .pic) k h (is-marked k m) (is-marked h o) e)
+      (t .once (down-distinct (pm .pic)));
   within-limit = t .limited;
   within-list = (let f = t .few in omega arith);
 }

@@ -54,7 +54,11 @@ module _ (xs : List Slot) (refp : List EvcRefP) (fwd bwd : List Key) (w : TwoLis
   pub both-long : length (bothWritten xs fwd bwd refp) ≡ listPlaces + listPlaces
   both-long =
       length-append (written xs fwd (take listPlaces refp)) (written xs bwd (drop listPlaces refp))
-      ∙ (let n = first-long in let m = back-long in let f = w .backward-few in let e = written-length xs bwd (drop listPlaces refp) (omega arith) in omega arith)
+      ∙ (let n = first-long in
+      let m = back-long in
+      let f = w .backward-few in
+      let e = written-length xs bwd (drop listPlaces refp) (omega arith) in
+      omega arith)
 
   in-first : (j : ℕ) → j < listPlaces → getD (bothWritten xs fwd bwd refp) j noRefP ≡ getD (written xs fwd (take listPlaces refp)) j noRefP
   in-first j h = List·getD-append (written xs fwd (take listPlaces refp)) (written xs bwd (drop listPlaces refp)) noRefP j (let n = first-long in omega arith)
@@ -75,6 +79,7 @@ module _ (xs : List Slot) (refp : List EvcRefP) (fwd bwd : List Key) (w : TwoLis
   pub backward-place : (i : ℕ) (d : Key) → i < length bwd → getD (bothWritten xs fwd bwd refp) (listPlaces + i) noRefP ≡ entryOf xs (getD bwd i d)
   backward-place i d h = in-second i ∙ written-front xs bwd (drop listPlaces refp) i d h
 
-  pub backward-rest : (i : ℕ) → length bwd ≤ i → i < listPlaces → getD (bothWritten xs fwd bwd refp) (listPlaces + i) noRefP ≡ dropped (getD refp (listPlaces + i) noRefP)
+  pub backward-rest : (i : ℕ) → length bwd ≤ i → i < listPlaces
+      → getD (bothWritten xs fwd bwd refp) (listPlaces + i) noRefP ≡ dropped (getD refp (listPlaces + i) noRefP)
   backward-rest i l h =
       in-second i ∙ written-back xs bwd (drop listPlaces refp) i l (let n = back-long in omega arith) ∙ ap dropped (getD-drop listPlaces refp i noRefP)

@@ -44,7 +44,8 @@ ListsWhy = (pm : EvcPm) (refp : List EvcRefP) (c : RefpCall) (why : Refusal) →
 -- A call that is turned down changes neither state nor lists, a state that is not whole among them.
 abbrev pub ListsRefusedUnchanged : Type 0
 ListsRefusedUnchanged =
-    (pm : EvcPm) (refp : List EvcRefP) (c : RefpCall) (why : Refusal) → lists pm refp c .answer ≡ Answer.Refused why → lists pm refp c ≡ listsRefused why pm refp
+    (pm : EvcPm) (refp : List EvcRefP) (c : RefpCall) (why : Refusal) → lists pm refp c .answer ≡ Answer.Refused why
+    → lists pm refp c ≡ listsRefused why pm refp
 
 -- A whole state stays whole.
 abbrev pub ListsStayWhole : Type 0
@@ -98,12 +99,14 @@ pub data CopyReason (refp : List EvcRefP) (cnt lidx : ℕ) (src : EvcRefP) : Ref
 
 abbrev pub CopyWhy : Type 0
 CopyWhy =
-    (refp : List EvcRefP) (cnt lidx : ℕ) (src : EvcRefP) (why : Refusal) → (copy refp cnt lidx src .answer ≡ Answer.Refused why) ↔ CopyReason refp cnt lidx src why
+    (refp : List EvcRefP) (cnt lidx : ℕ) (src : EvcRefP) (why : Refusal)
+    → (copy refp cnt lidx src .answer ≡ Answer.Refused why) ↔ CopyReason refp cnt lidx src why
 
 -- A copy that is turned down leaves the lists.
 abbrev pub CopyRefusedUnchanged : Type 0
 CopyRefusedUnchanged =
-    (refp : List EvcRefP) (cnt lidx : ℕ) (src : EvcRefP) (why : Refusal) → copy refp cnt lidx src .answer ≡ Answer.Refused why → copy refp cnt lidx src .refp ≡ refp
+    (refp : List EvcRefP) (cnt lidx : ℕ) (src : EvcRefP) (why : Refusal)
+    → copy refp cnt lidx src .answer ≡ Answer.Refused why → copy refp cnt lidx src .refp ≡ refp
 
 -- Any other writes the entry as it is, and no other entry.
 abbrev pub CopyWrites : Type 0

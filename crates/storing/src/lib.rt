@@ -15,7 +15,9 @@ ghost use Rattle.refp.specs.Running.{entryWith, HeldKey, EntryStored, Dropped, 
 // Flag and buffer number of the entry at place `j`, and its number.
 pub fn write_head(rows: &mut [u32], j: usize, head: u32, poc: u32)
     requires { ⌜ (length (now rows) ≡ rowsLength) × (j < listPlaces + listPlaces) ⌝ }
-    ensures { λ _. ⌜ now (rows .exit) ≡ set (set (now (rows .entry)) (rowLength * headRow + j) head) (rowLength * numberRow + j) poc ⌝ }
+    ensures { λ _.
+        let headed = set (now (rows .entry)) (rowLength * headRow + j) head in
+        ⌜ now (rows .exit) ≡ set headed (rowLength * numberRow + j) poc ⌝ }
 {
     rows[ROW * HEAD_ROW + j] = head;
     rows[ROW * NUMBER_ROW + j] = poc;
