@@ -51,7 +51,8 @@ module _ (xs : List Slot) (c : RefpCall) (slot : ℕ) where
     unfolding whyWhole
     answers-i i e = rw (le-ltb highestPoc (c .poc) fits, i) e
 
-    pub answers-choice : {r : WhyAnswer} → isI (c .«slice_type») ≡ false → r ≡ ifChosen (choice c (down xs)) (ofSlot xs slot (reasonFor c xs slot)) → r ≡ whyWhole xs c slot
+    pub answers-choice : {r : WhyAnswer} → isI (c .«slice_type») ≡ false
+        → r ≡ ifChosen (choice c (down xs)) (ofSlot xs slot (reasonFor c xs slot)) → r ≡ whyWhole xs c slot
     unfolding whyWhole
     answers-choice i e = rw (le-ltb highestPoc (c .poc) fits, i) e
 

@@ -29,7 +29,9 @@ pub fn why_on(
     call: RefpCall,
     slot: u8,
 ) -> WhyAnswer
-    requires { ⌜ (length (now keys) ≡ slots) × (length (now «pic_ref») ≡ slots) × (length (now list) ≡ listPlaces + listPlaces) ⌝ }
+    requires { ⌜ (length (now keys) ≡ slots)
+        × (length (now «pic_ref») ≡ slots)
+        × (length (now list) ≡ listPlaces + listPlaces) ⌝ }
     ensures { λ r. ⌜ ((rows : List ℕ) → r ≡ whyWhole (map (slotAt rows) (now (keys .entry))) call slot) ⌝ }
 {
     if MAX_POC < call.poc {

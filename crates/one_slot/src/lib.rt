@@ -44,7 +44,9 @@ pub fn slot_answer(
 ) -> WhyAnswer
     requires { ⌜ PassesRoom (now «pic_ref») num (now list) 0 × (length (now keys) ≡ slots) ⌝ }
     requires { ⌜ ((rows : List ℕ) → keysIn num (now «pic_ref») ≡ down (map (slotAt rows) (now keys))) ⌝ }
-    ensures { λ r. ⌜ ((rows : List ℕ) → let xs = map (slotAt rows) (now (keys .entry)) in r ≡ ofSlot xs slot (reasonFor call xs slot)) ⌝ }
+    ensures { λ r. ⌜ ((rows : List ℕ)
+        → let pics = map (slotAt rows) (now (keys .entry)) in
+        r ≡ ofSlot pics slot (reasonFor call pics slot)) ⌝ }
 {
     if !is_held(keys, slot) {
         return WhyAnswer::Refused(Refusal::NoSuchPlace);

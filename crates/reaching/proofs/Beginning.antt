@@ -13,7 +13,8 @@ use Rattle.passes.specs.Passes.{pass}
 use Rattle.passes.specs.InNumbers.{askIn, PassesDone}
 use Rattle.reaching.specs.Told.{Begins}
 
-pub begins-up : {n num : ℕ} {pics before after : List ℕ} {rule : PassRule} {up : Bool} → PassesDone n (pass (askIn rule) false (keysIn num pics) []) num before after 0 → num ≤ listPlaces
+pub begins-up : {n num : ℕ} {pics before after : List ℕ} {rule : PassRule} {up : Bool}
+    → PassesDone n (pass (askIn rule) false (keysIn num pics) []) num before after 0 → num ≤ listPlaces
     → up ≡ true → Begins n pics num after rule up
 begins-up {n} {after = after} d few u = record {
   as-many = rw u (sym (keys-length n after (let c = d .counted in let l = d .list-long in omega arith)) ∙ ap length (d .comes-to));

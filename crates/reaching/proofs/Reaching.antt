@@ -34,17 +34,20 @@ pub record OnTheWay (a : Ask) (up : Bool) (slot : ℕ) (ws : List Key) (start : 
 
 module _ (a : Ask) (up : Bool) where
   -- they are those of the pass
-  pub reach-pass : (p : Progress) (ks : List Key) → reach a up (length (p .list)) (p .bound) ks ≡ reached (length (passOn a up p ks .list)) (passOn a up p ks .bound)
+  pub reach-pass : (p : Progress) (ks : List Key)
+      → reach a up (length (p .list)) (p .bound) ks ≡ reached (length (passOn a up p ks .list)) (passOn a up p ks .bound)
   unfolding reach passOn
   reach-pass p [] = refl
   reach-pass p (k ∷ ks) = pick (takesKey a up (length (p .list)) (p .bound) k) refl (λ q. reach-pass q ks)
     where
       pick : (t : Bool) → takesKey a up (length (p .list)) (p .bound) k ≡ t
           → ((q : Progress) → reach a up (length (q .list)) (q .bound) ks ≡ reached (length (passOn a up q ks .list)) (passOn a up q ks .bound))
-          → reach a up (length (p .list)) (p .bound) (k ∷ ks) ≡ reached (length (passOn a up (stepOn a up p k) ks .list)) (passOn a up (stepOn a up p k) ks .bound)
+          → reach a up (length (p .list)) (p .bound) (k ∷ ks)
+          ≡ reached (length (passOn a up (stepOn a up p k) ks .list)) (passOn a up (stepOn a up p k) ks .bound)
       pick true t rest =
           let n : length (p .list ++ (k ∷ [])) ≡ suc (length (p .list)) = length-append (p .list) (k ∷ []) ∙ add-one (length (p .list)) in
-          rw (step-takes a up p k t, t) (ap (λ (m : ℕ). reach a up m (a .after (k .layer)) ks) (sym n) ∙ rest (record { list = p .list ++ (k ∷ []); bound = a .after (k .layer) }))
+          rw (step-takes a up p k t, t)
+          (ap (λ (m : ℕ). reach a up m (a .after (k .layer)) ks) (sym n) ∙ rest (record { list = p .list ++ (k ∷ []); bound = a .after (k .layer) }))
       pick false t rest = rw (step-leaves a up p k t, t) (rest p)
 
 -- ---- the walk to the picture of a slot
@@ -80,7 +83,8 @@ module _ {a : Ask} {up : Bool} {slot : ℕ} {ws : List Key} {start : Reached} {t
 
 -- what the walk comes to is what the contract says
 pub reaches : (pics : List ℕ) (num : ℕ) (rule : PassRule) (up : Bool) (cnt slot : ℕ) (r : Reached)
-    → r ≡ reach (askIn rule) up cnt (rule .start) (inFront slot (walked up (keysIn num pics))) → r .cnt ≤ listPlaces + listPlaces → Reaches r pics num rule up cnt slot
+    → r ≡ reach (askIn rule) up cnt (rule .start) (inFront slot (walked up (keysIn num pics)))
+    → r .cnt ≤ listPlaces + listPlaces → Reaches r pics num rule up cnt slot
 reaches pics num rule up cnt slot r e few = record { comes-to = comes; few = few }
   where
     comes : (list : List Key) → length list ≡ cnt
@@ -88,5 +92,8 @@ reaches pics num rule up cnt slot r e few = record { comes-to = comes; few = few
         (r .cnt ≡ length (p .list)) × (r .bound ≡ p .bound)
     comes list n =
         let p : Progress = record { list = list; bound = rule .start } in
-        let same = e ∙ ap (λ (m : ℕ). reach (askIn rule) up m (rule .start) (inFront slot (walked up (keysIn num pics)))) (sym n) ∙ reach-pass (askIn rule) up p (inFront slot (walked up (keysIn num pics))) in
+        let same =
+        e
+        ∙ ap (λ (m : ℕ). reach (askIn rule) up m (rule .start) (inFront slot (walked up (keysIn num pics)))) (sym n)
+        ∙ reach-pass (askIn rule) up p (inFront slot (walked up (keysIn num pics))) in
         (ap (λ (x : Reached). x .cnt) same, ap (λ (x : Reached). x .bound) same)

@@ -88,7 +88,9 @@ pub fn reason_of(
     slot: usize,
 ) -> Reason
     requires { ⌜ PassesRoom (now «pic_ref») num (now list) 0 × (slot < slots) ⌝ }
-    ensures { λ r. ⌜ ((rows : List ℕ) → r ≡ judgedAt call true (keysIn num (now («pic_ref» .entry))) (keyOf slot (slotAt rows key))) ⌝ }
+    ensures { λ r.
+        let ordered = keysIn num (now («pic_ref» .entry)) in
+        ⌜ ((rows : List ℕ) → r ≡ judgedAt call true ordered (keyOf slot (slotAt rows key))) ⌝ }
 {
     let rule = rule_of(call);
     let slice_type = call.slice_type;

@@ -40,12 +40,16 @@ module _ (a : Ask) (up : Bool) {m n : ℕ} (lower : m ≤ n) where
   longer : (p : Progress) (ks : List Key) → length (p .list) ≤ length (passOn (limited n a) up p ks .list)
   longer p ks = let g = pass-grows (limited n a) up p ks in let e = ap length (g .split) ∙ length-append (p .list) (g .more) in omega arith
 
-  full-cut : (list rest : List Key) (bound : ℕ) → m ≤ length rest → list ≡ take m rest → (ks : List Key) → CutAt m (passOn (limited m a) up (from list bound) ks) (passOn (limited n a) up (from rest bound) ks)
+  full-cut : (list rest : List Key) (bound : ℕ) → m ≤ length rest → list ≡ take m rest → (ks : List Key)
+      → CutAt m (passOn (limited m a) up (from list bound) ks) (passOn (limited n a) up (from rest bound) ks)
   full-cut list rest bound h e ks =
       let n : length list ≡ m = ap length e ∙ length-take-le m rest h in
       let g = pass-grows (limited _ a) up (from rest bound) ks in
       record {
-        cut = ap (λ (p : Progress). p .list) (full-stays (limited m a) up (from list bound) ks (omega arith)) ∙ e ∙ sym (ap (take m) (g .split) ∙ take-append-le m rest (g .more) h);
+        cut =
+            ap (λ (p : Progress). p .list) (full-stays (limited m a) up (from list bound) ks (omega arith))
+            ∙ e
+            ∙ sym (ap (take m) (g .split) ∙ take-append-le m rest (g .more) h);
         same = λ l. absurd (let g = longer (from rest bound) ks in omega arith);
       }
 
@@ -76,14 +80,17 @@ module _ (a : Ask) (up : Bool) {m n : ℕ} (lower : m ≤ n) where
           full-cut (p .list) (p .list) (p .bound) l (sym (take-all m (p .list) h)) (k ∷ ks)
 
   -- from a list and the same cut
-  cut-from : (list rest : List Key) (bound : ℕ) → list ≡ take m rest → (ks : List Key) → CutAt m (passOn (limited m a) up (from list bound) ks) (passOn (limited n a) up (from rest bound) ks)
+  cut-from : (list rest : List Key) (bound : ℕ) → list ≡ take m rest → (ks : List Key)
+      → CutAt m (passOn (limited m a) up (from list bound) ks) (passOn (limited n a) up (from rest bound) ks)
   cut-from list rest bound e ks = pick (ltb (length rest) m) refl
     where
       pick : (b : Bool) → ltb (length rest) m ≡ b → CutAt m (passOn (limited m a) up (from list bound) ks) (passOn (limited n a) up (from rest bound) ks)
       pick true b =
           let l = ltb-true (length rest) m b in
           let same : list ≡ rest = e ∙ take-all m rest (omega arith) in
-          subst (λ (l : List Key). CutAt m (passOn (limited m a) up (from l bound) ks) (passOn (limited n a) up (from rest bound) ks)) (sym same) (pass-cut (from rest bound) ks (omega arith))
+          subst
+          (λ (l : List Key). CutAt m (passOn (limited m a) up (from l bound) ks) (passOn (limited n a) up (from rest bound) ks))
+          (sym same) (pass-cut (from rest bound) ks (omega arith))
       pick false b = full-cut list rest bound (ltb-false (length rest) m b) e ks
 
 -- ---- the lists, and the walk to a turn
@@ -103,7 +110,8 @@ module _ (a : Ask) {m n : ℕ} (lower : m ≤ n) (ks : List Key) where
 
   turn-cut : (up : Bool) (slot : ℕ) → CutAt m (atTurn (limited m a) up slot ks) (atTurn (limited n a) up slot ks)
   unfolding atTurn
-  turn-cut true slot = cut-from a true lower (pass (limited m a) false ks []) (pass (limited n a) false ks []) (a .start) down-cut (inFront slot (walked true ks))
+  turn-cut true slot =
+      cut-from a true lower (pass (limited m a) false ks []) (pass (limited n a) false ks []) (a .start) down-cut (inFront slot (walked true ks))
   turn-cut false slot = cut-from a false lower [] [] (a .start) no-list (inFront slot ks)
 
 pub limit-cuts : LimitCuts

@@ -59,7 +59,8 @@ module _ {A B : Type 0} (f : A → B) (p : A → Bool) (d : A) (none : p d ≡ f
   selected xs i t = Memᴰ·map f (select-mem p xs (passing-mem p d none xs i t) t)
 
   -- elements that pass the test and have the same image stand at one place, where no two such have the same
-  image-place : (xs : List A) (i j : ℕ) → Distinct (map f (select p xs)) → p (getD xs i d) ≡ true → p (getD xs j d) ≡ true → f (getD xs i d) ≡ f (getD xs j d) → i ≡ j
+  image-place : (xs : List A) (i j : ℕ) → Distinct (map f (select p xs)) → p (getD xs i d) ≡ true → p (getD xs j d) ≡ true
+      → f (getD xs i d) ≡ f (getD xs j d) → i ≡ j
   unfolding Distinct select
   image-place [] i j u t s e = absurd (Bool.true≢false (sym t ∙ none))
   image-place (x ∷ xs) zero zero u t s e = refl
@@ -77,10 +78,12 @@ module _ {A B : Type 0} (f : A → B) (p : A → Bool) (d : A) (none : p d ≡ f
 one-buffer : (pm : EvcPm) (i j : ℕ) → whole pm ≡ true → isPresent (getD (pm .pic) i noSlot) ≡ true → isPresent (getD (pm .pic) j noSlot) ≡ true
     → getD (pm .pic) i noSlot .buf ≡ getD (pm .pic) j noSlot .buf → i ≡ j
 one-buffer pm i j w t s e =
-    let split : map bufferOf (select isPresent (pm .pic ++ leases pm)) ≡ map bufferOf (select isPresent (pm .pic)) ++ map bufferOf (select isPresent (leases pm)) =
+    let split : map bufferOf (select isPresent (pm .pic ++ leases pm))
+    ≡ map bufferOf (select isPresent (pm .pic)) ++ map bufferOf (select isPresent (leases pm)) =
     ap (map bufferOf) (select-append isPresent (pm .pic) (leases pm)) ∙ map-append bufferOf (select isPresent (pm .pic)) (select isPresent (leases pm)) in
     image-place bufferOf isPresent noSlot refl (pm .pic) i j
-    (distinct-left (map bufferOf (select isPresent (pm .pic))) (map bufferOf (select isPresent (leases pm))) (subst (Distinct {A = ℕ}) split (whole-rules pm w .buffers-differ)))
+    (distinct-left (map bufferOf (select isPresent (pm .pic))) (map bufferOf (select isPresent (leases pm)))
+    (subst (Distinct {A = ℕ}) split (whole-rules pm w .buffers-differ)))
     t s e
 
 mem-walked : {k : Key} (up : Bool) (ks : List Key) → List·Memᴰ k ks → List·Memᴰ k (walked up ks)
@@ -168,7 +171,8 @@ module _ (pm : EvcPm) (refp : List EvcRefP) (c : RefpCall) (slot : ℕ) (long : 
         pick : (t : Bool) → takes ≡ t → takes ≡ true
         pick true t = t
         pick false t =
-            absurd (nowhere (askOf c) (down (pm .pic)) (standing (pm .pic) slot is-marked) (down-distinct (pm .pic)) (isB (c .«slice_type»)) (goesUp c (pm .pic) slot) refl t
+            absurd (nowhere (askOf c) (down (pm .pic)) (standing (pm .pic) slot is-marked) (down-distinct (pm .pic)) (isB (c .«slice_type»))
+            (goesUp c (pm .pic) slot) refl t
             (subst (List·Memᴰ key) forward-is (subst (λ (k : Key). List·Memᴰ k (built .fwd)) is-key at-n-mem)))
 
     at-its-turn : Condition c (pm .pic) slot (Reason.Taken n)
@@ -178,7 +182,8 @@ module _ (pm : EvcPm) (refp : List EvcRefP) (c : RefpCall) (slot : ℕ) (long : 
 
 pub buffer-tells : BufferTells
 buffer-tells pm refp c slot n long asked below same =
-    each-exactly pm refp c slot (Reason.Taken n) asked .1 (record { holds = at-its-turn pm refp c slot long asked n below same; none-before = λ q l h. omega arith })
+    each-exactly pm refp c slot (Reason.Taken n) asked .1
+    (record { holds = at-its-turn pm refp c slot long asked n below same; none-before = λ q l h. omega arith })
 
 pub taken-exactly : TakenExactly
 taken-exactly pm refp c slot n long asked = (

@@ -29,14 +29,16 @@ told-refused e = let z : _≡_ {A = ℕ} 0 1 = cc in omega arith
 pub data WhyEnd (pm : EvcPm) (c : RefpCall) (slot : ℕ) : WhyAnswer → Type 0 where
   turned-away : (r : Refusal) → ListsReason pm c r → WhyEnd pm c slot (WhyAnswer.Refused r)
   for-i : whole pm ≡ true → c .poc ≤ highestPoc → isI (c .«slice_type») ≡ true → WhyEnd pm c slot (ofSlot (pm .pic) slot Reason.NoListAsked)
-  judges : Asked pm c → (fwd bwd : List Key) → choice c (down (pm .pic)) ≡ chosen fwd bwd → WhyEnd pm c slot (ofSlot (pm .pic) slot (reasonFor c (pm .pic) slot))
+  judges : Asked pm c → (fwd bwd : List Key) → choice c (down (pm .pic)) ≡ chosen fwd bwd
+      → WhyEnd pm c slot (ofSlot (pm .pic) slot (reasonFor c (pm .pic) slot))
 
 module _ (pm : EvcPm) (c : RefpCall) (slot : ℕ) where
   asked-lists : (refp : List EvcRefP) {ch : Chosen} → Asked pm c → choice c (down (pm .pic)) ≡ ch → lists pm refp c ≡ listsChosen pm refp ch
   unfolding lists listsWhole
   asked-lists refp a e = rw (a .is-whole, le-ltb highestPoc (c .poc) (a .number-fits), a .not-i, e)
 
-  chosen-ends : Asked pm c → (ch : Chosen) → choice c (down (pm .pic)) ≡ ch → WhyEnd pm c slot (ifChosen ch (ofSlot (pm .pic) slot (reasonFor c (pm .pic) slot)))
+  chosen-ends : Asked pm c → (ch : Chosen) → choice c (down (pm .pic)) ≡ ch
+      → WhyEnd pm c slot (ifChosen ch (ofSlot (pm .pic) slot (reasonFor c (pm .pic) slot)))
   chosen-ends a (turned-down r) e = turned-away r (lists-why pm [] c r .0 (ap (λ (x : RefpResult). x .answer) (asked-lists [] a e)))
   chosen-ends a (chosen fwd bwd) e = judges a fwd bwd e
 
@@ -50,7 +52,8 @@ module _ (pm : EvcPm) (c : RefpCall) (slot : ℕ) where
       pick false w h e i f = turned-away Refusal.StateNotWhole (not-whole w)
       pick true w true e i f = turned-away Refusal.NumberTooHigh (too-high w (ltb-true highestPoc (c .poc) e))
       pick true w false e true f = for-i w (ltb-false highestPoc (c .poc) e) f
-      pick true w false e false f = chosen-ends (record { is-whole = w; number-fits = ltb-false highestPoc (c .poc) e; not-i = f }) (choice c (down (pm .pic))) refl
+      pick true w false e false f =
+          chosen-ends (record { is-whole = w; number-fits = ltb-false highestPoc (c .poc) e; not-i = f }) (choice c (down (pm .pic))) refl
 
   -- ---- a list call that is not turned down
 

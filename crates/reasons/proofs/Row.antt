@@ -135,7 +135,8 @@ module _ (c : RefpCall) (xs : List Slot) (slot : ℕ) where
           is-not false e = refl
       last t before room young other false s =
           found Reason.LayerOverBound (layer-left ask both cnt bound key t room young other s)
-          (none-more 5 before (λ h. absurd (Bool.true≢false (let e : otherSide both (c .poc) key ≡ true = rw (h .0, lt-ltb (c .poc) (key .poc) (h .1)) in sym e ∙ s))))
+          (none-more 5 before
+          (λ h. absurd (Bool.true≢false (let e : otherSide both (c .poc) key ≡ true = rw (h .0, lt-ltb (c .poc) (key .poc) (h .1)) in sym e ∙ s))))
 
       fourth : takes ≡ false → None 4 → cnt < ask .limit → ask .old key ≡ false → (e : Bool) → eqb (key .poc) (c .poc) ≡ e
           → Earliest c xs slot (cond e Reason.SameNumber bySide)
@@ -154,7 +155,8 @@ module _ (c : RefpCall) (xs : List Slot) (slot : ℕ) where
       second t before false f =
           let room = leb-false (ask .limit) cnt f in third t (none-more 2 before (λ h. omega arith)) room (ask .old key) refl
 
-      first : (m : Bool) → isMarked (getD xs slot noSlot) ≡ m → (t : Bool) → takes ≡ t → Earliest c xs slot (cond (m && t) (Reason.Taken cnt) (cond (not m) Reason.NotMarked byRoom))
+      first : (m : Bool) → isMarked (getD xs slot noSlot) ≡ m → (t : Bool) → takes ≡ t
+          → Earliest c xs slot (cond (m && t) (Reason.Taken cnt) (cond (not m) Reason.NotMarked byRoom))
       first true m true t = found (Reason.Taken cnt) (m, t, refl) none
       first true m false t =
           second t (none-more 1 (none-more 0 none (λ h. Bool.true≢false (sym (h .1) ∙ t))) (λ h. Bool.true≢false (sym m ∙ h))) (leb (ask .limit) cnt) refl

@@ -40,7 +40,9 @@ module _ {slot : ℕ} {k : Key} (here : k .slot ≡ slot) where
   stands-in (w ∷ ws) one m = pick (eqb (w .slot) slot) refl (stands-in ws (λ h n. one h (List·Memᴰ·tail n)))
     where
       later : eqb (w .slot) slot ≡ false → List·Memᴰ k ws
-      later e = ⊎-elim (λ q. absurd (Bool.true≢false (sym (eq-eqb (w .slot) slot (ap (λ (x : Key). x .slot) (sym q) ∙ here)) ∙ e))) (λ n. n) (List·Memᴰ·cases-cons m)
+      later e =
+          ⊎-elim (λ q. absurd (Bool.true≢false (sym (eq-eqb (w .slot) slot (ap (λ (x : Key). x .slot) (sym q) ∙ here)) ∙ e)))
+          (λ n. n) (List·Memᴰ·cases-cons m)
 
       pick : (b : Bool) → eqb (w .slot) slot ≡ b → (List·Memᴰ k ws → Stands slot k ws) → Stands slot k (w ∷ ws)
       pick true e rest =

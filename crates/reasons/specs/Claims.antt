@@ -62,7 +62,9 @@ comeTo c xs slot = atTurn (askOf c) (goesUp c xs slot) slot (down xs)
 abbrev pub Condition : RefpCall → List Slot → ℕ → Reason → Type 0
 Condition c xs slot (Reason.Taken n) =
     let p = comeTo c xs slot in
-    (isMarked (getD xs slot noSlot) ≡ true) × (passStep (askOf c) (goesUp c xs slot) (length (p .list)) (p .bound) (keyAt xs slot) .taken ≡ true) × (n ≡ length (p .list))
+    (isMarked (getD xs slot noSlot) ≡ true)
+    × (passStep (askOf c) (goesUp c xs slot) (length (p .list)) (p .bound) (keyAt xs slot) .taken ≡ true)
+    × (n ≡ length (p .list))
 Condition c xs slot Reason.NotMarked = isMarked (getD xs slot noSlot) ≡ false
 Condition c xs slot Reason.Full = askOf c .limit ≤ length (comeTo c xs slot .list)
 Condition c xs slot Reason.Old = askOf c .old (keyAt xs slot) ≡ true

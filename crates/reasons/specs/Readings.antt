@@ -18,7 +18,8 @@ pub record Reading : Type 0 where
 
 -- A picture of this number and layer in this buffer, marked or not.
 abbrev pub pictureIn : ℕ → Bool → ℕ → ℕ → Slot
-pictureIn buf isRef poc layer = occupiedBy (record { poc = poc; «is_ref» = isRef; «need_for_out» = false; «temporal_id» = layer; «list_poc» = replicate listPlaces 0 }) buf
+pictureIn buf isRef poc layer =
+    occupiedBy (record { poc = poc; «is_ref» = isRef; «need_for_out» = false; «temporal_id» = layer; «list_poc» = replicate listPlaces 0 }) buf
 
 -- Two pictures, in slots 0 and 1, and so many of them marked.
 abbrev pub twoPictures : Slot → Slot → ℕ → EvcPm

@@ -43,12 +43,15 @@ in-order : (c : tie.After-choose) (rows : List ℕ)
 in-order c rows = ordered c .picman-update-pic-ref .ensures .1 rows
 
 -- what was chosen, on the order of the state's slots
-by-choice : (c : tie.After-choose) (rows : List ℕ) {ch : Chosen} → choice (start c .args .call) (keysIn (ordered c .picman-update-pic-ref .result) (ordered c .picman-update-pic-ref .last .1 .0)) ≡ ch
+by-choice : (c : tie.After-choose) (rows : List ℕ) {ch : Chosen}
+    → choice (start c .args .call) (keysIn (ordered c .picman-update-pic-ref .result) (ordered c .picman-update-pic-ref .last .1 .0)) ≡ ch
     → (a : WhyAnswer) → ifChosen ch a ≡ ifChosen (choice (start c .args .call) (down (map (slotAt rows) (start c .args .keys .now)))) a
 by-choice c rows e a = ap (λ (x : Chosen). ifChosen x a) (sym e ∙ ap (choice (start c .args .call)) (in-order c rows))
 
 is-chosen : (c : tie.At-match-keys2)
-    → IsChosen (choice (start (c .before) .args .call) (keysIn (ordered (c .before) .picman-update-pic-ref .result) (ordered (c .before) .picman-update-pic-ref .last .1 .0)))
+    → IsChosen
+    (choice (start (c .before) .args .call)
+    (keysIn (ordered (c .before) .picman-update-pic-ref .result) (ordered (c .before) .picman-update-pic-ref .last .1 .0)))
 is-chosen c = decided-chosen (c .before .choose .ensures) (λ r e. miss (0 ∷ 1 ∷ 2 ∷ 3 ∷ 4 ∷ []) 5 tt (rw e at (c .match .keys2)))
 
 returns : tie.Need-returns
@@ -66,7 +69,8 @@ returns-2 : tie.Need-returns-2
 returns-2 c rows =
     let at-i = c .before .before in
     let s = at-i .before .before .before .before in
-    answers-i (map (slotAt rows) (s .args .keys .now)) (s .args .call) (s .args .slot) (at-i .before .if1 .left) (sym (at-i .is-i .ensures) ∙ c .before .if2 .taken)
+    answers-i (map (slotAt rows) (s .args .keys .now)) (s .args .call) (s .args .slot) (at-i .before .if1 .left)
+    (sym (at-i .is-i .ensures) ∙ c .before .if2 .taken)
     (c .no-list .ensures rows)
 
 picman-update-pic-ref-requires : tie.Need-picman-update-pic-ref-requires
@@ -83,7 +87,8 @@ returns-3 c rows =
     let a = c .before in
     let p = a .before .before in
     let s = start p in
-    let d : Decided (Answer.Refused (a .answer .given .0 .0)) _ (choice (s .args .call) (keysIn (ordered p .picman-update-pic-ref .result) (ordered p .picman-update-pic-ref .last .1 .0))) =
+    let keys = keysIn (ordered p .picman-update-pic-ref .result) (ordered p .picman-update-pic-ref .last .1 .0) in
+    let d : Decided (Answer.Refused (a .answer .given .0 .0)) _ (choice (s .args .call) keys) =
     rw (a .answer .given .1) at (p .choose .ensures) in
     answers-choice (map (slotAt rows) (s .args .keys .now)) (s .args .call) (s .args .slot) (fits p) (not-i p) (by-choice p rows (decided-refused d) _)
 
@@ -92,7 +97,9 @@ slot-answer-requires c κs =
     let p = c .before .before .before in
     let s = start p in
     let g = ordered p .picman-update-pic-ref .ensures in
-    let few = chosen-few (s .args .call) (ordered p .picman-update-pic-ref .result) (ordered p .picman-update-pic-ref .last .1 .0) (let n = g .0 in let l = g .2 in omega arith) (is-chosen (c .before .before)) in
+    let few =
+    chosen-few (s .args .call) (ordered p .picman-update-pic-ref .result) (ordered p .picman-update-pic-ref .last .1 .0)
+    (let n = g .0 in let l = g .2 in omega arith) (is-chosen (c .before .before)) in
     ((record { keys-long = g .2; list-long = p .choose .ensures .list-long; few = few; starts = lit≤ tt }, s .pre .0), in-order p)
 
 returns-4 : tie.Need-returns-4

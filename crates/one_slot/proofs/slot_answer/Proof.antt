@@ -14,7 +14,8 @@ use Rattle.one_slot.proofs.slot_answer.Statement.{statement}
 use Rattle.one_slot.proofs.slot_answer.Tie as tie
 
 -- the slot holds a picture
-held : (c : tie.Else1) (rows : List ℕ) → isPresent (getD (map (slotAt rows) (c .before .before .before .args .keys .now)) (c .before .before .before .args .slot) noSlot) ≡ true
+held : (c : tie.Else1) (rows : List ℕ)
+    → isPresent (getD (map (slotAt rows) (c .before .before .before .args .keys .now)) (c .before .before .before .args .slot) noSlot) ≡ true
 held c rows = sym (c .before .is-held .ensures rows) ∙ not-false _ (c .if1 .left)
 
 below : (c : tie.Else1) → c .before .before .before .args .slot < length (c .before .before .before .args .keys .now)

@@ -60,16 +60,20 @@ abbrev keys : tie.Start Inv-loop μ-loop → List Key
 keys s = keysIn (s .args .num) (s .args .pic-ref .now)
 
 next : (c : tie.After-key Inv-loop μ-loop)
-    → drop (looped c .loop .i) (walked (start c .args .up) (keys (start c))) ≡ keyIn (key c) ∷ drop (suc (looped c .loop .i)) (walked (start c .args .up) (keys (start c)))
+    → drop (looped c .loop .i) (walked (start c .args .up) (keys (start c)))
+    ≡ keyIn (key c) ∷ drop (suc (looped c .loop .i)) (walked (start c .args .up) (keys (start c)))
 unfolding key
 next c =
     let s = start c in
     next-key (s .args .up) (s .args .num) (s .args .pic-ref .now) (looped c .loop .i) (few s) (tested c .loop-test .taken)
-    ∙ ap (λ (p : ℕ). keyIn (getD (s .args .pic-ref .now) p 0) ∷ drop (suc (looped c .loop .i)) (walked (s .args .up) (keys s))) (sym (c .before .place-of .ensures))
+    ∙ ap (λ (p : ℕ). keyIn (getD (s .args .pic-ref .now) p 0) ∷ drop (suc (looped c .loop .i)) (walked (s .args .up) (keys s)))
+    (sym (c .before .place-of .ensures))
 
 -- whether it is taken
 told : (c : tie.After-pass-step Inv-loop μ-loop) {b : Bool} → c .pass-step .result .taken ≡ b
-    → takesKey (askIn (start (c .before .before) .args .rule)) (start (c .before .before) .args .up) (looped (c .before .before) .loop .taken) (looped (c .before .before) .loop .bound) (keyIn (key (c .before .before))) ≡ b
+    → takesKey (askIn (start (c .before .before) .args .rule)) (start (c .before .before) .args .up)
+    (looped (c .before .before) .loop .taken) (looped (c .before .before) .loop .bound) (keyIn (key (c .before .before)))
+    ≡ b
 unfolding key
 told c e = sym (ap (λ (t : Turn). t .taken) (c .pass-step .ensures)) ∙ e
 
@@ -92,7 +96,8 @@ returns c =
     let s = start k in
     let l = looped k .loop in
     reaches (s .args .pic-ref .now) (s .args .num) (s .args .rule) (s .args .up) (s .args .cnt) (s .args .slot) _
-    (way-turn (l .inv .2) (keyIn (key k)) (next k) (c .if1 .taken)) (let f = s .pre .few in let g = s .pre .started in let h = l .inv .1 in let i = l .inv .0 in omega arith)
+    (way-turn (l .inv .2) (keyIn (key k)) (next k) (c .if1 .taken))
+    (let f = s .pre .few in let g = s .pre .started in let h = l .inv .1 in let i = l .inv .0 in omega arith)
 
 pass-step-requires : tie.Need-pass-step-requires Inv-loop μ-loop
 pass-step-requires c κs = search needs
@@ -122,7 +127,8 @@ loop-again c =
     let l = looped k .loop in (
       omega arith,
       (let h = l .inv .1 in omega arith),
-      way-takes (l .inv .2) (keyIn (key k)) (next k) (step .before .if1 .left) (told step (c .if2 .taken)) (ap (λ (t : Turn). t .bound) (step .pass-step .ensures)),
+      way-takes (l .inv .2) (keyIn (key k)) (next k) (step .before .if1 .left) (told step (c .if2 .taken))
+          (ap (λ (t : Turn). t .bound) (step .pass-step .ensures)),
     )
 
 add-i-2 : tie.Need-add-i-2 Inv-loop μ-loop
@@ -139,7 +145,8 @@ loop-again-2 c =
     let l = looped k .loop in (
       omega arith,
       (let h = l .inv .1 in omega arith),
-      way-leaves (l .inv .2) (keyIn (key k)) (next k) (step .before .if1 .left) (told step (c .if2 .left)) (ap (λ (t : Turn). t .bound) (step .pass-step .ensures)),
+      way-leaves (l .inv .2) (keyIn (key k)) (next k) (step .before .if1 .left) (told step (c .if2 .left))
+          (ap (λ (t : Turn). t .bound) (step .pass-step .ensures)),
     )
 
 returns-2 : tie.Need-returns-2 Inv-loop μ-loop
@@ -147,7 +154,11 @@ returns-2 c =
     let s = c .before .before in
     let l = c .before .loop in
     reaches (s .args .pic-ref .now) (s .args .num) (s .args .rule) (s .args .up) (s .args .cnt) (s .args .slot) _
-    (way-end (l .inv .2) (let n = keys-length (s .args .num) (s .args .pic-ref .now) (few s) in let m = walked-length (s .args .up) (keys s) in let t = c .loop-test .left in omega arith))
+    (way-end (l .inv .2)
+    (let n = keys-length (s .args .num) (s .args .pic-ref .now) (few s) in
+    let m = walked-length (s .args .up) (keys s) in
+    let t = c .loop-test .left in
+    omega arith))
     (let f = s .pre .few in let g = s .pre .started in let h = l .inv .1 in let i = l .inv .0 in omega arith)
 
 pub at-turn-spec : {M : Type 1} → statement M

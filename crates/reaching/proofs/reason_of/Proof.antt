@@ -39,7 +39,8 @@ returns c rows =
     let ruled = told .before in
     let s = ruled .before in
     c .judge .ensures
-    ∙ on-call (told .is-b .result) (keyed .order-key .result) (s .args .call) (keyOf (s .args .slot) (slotAt rows (s .args .key))) (ruled .rule-of .ensures) (told .is-b .ensures) (keyed .order-key .ensures rows)
+    ∙ on-call (told .is-b .result) (keyed .order-key .result) (s .args .call) (keyOf (s .args .slot) (slotAt rows (s .args .key)))
+    (ruled .rule-of .ensures) (told .is-b .ensures) (keyed .order-key .ensures rows)
     (ap (λ b. told .is-b .result && b) (sided .on-side .ensures)) refl (begun .begun .ensures) (walked .at-turn .ensures)
 
 pub reason-of-spec : {M : Type 1} → statement M

@@ -12,7 +12,9 @@ use Rattle.weighing.proofs.judge.Tie as tie
 
 -- whether the step takes it
 told : (c : tie.After-pass-step) {b : Bool} → c .pass-step .result .taken ≡ b
-    → takesKey (askIn (c .before .args .rule)) (c .before .args .up) (c .before .args .reached .cnt) (c .before .args .reached .bound) (keyIn (c .before .args .key)) ≡ b
+    → takesKey (askIn (c .before .args .rule)) (c .before .args .up) (c .before .args .reached .cnt)
+    (c .before .args .reached .bound) (keyIn (c .before .args .key))
+    ≡ b
 told c e = sym (ap (λ (t : Turn). t .taken) (c .pass-step .ensures)) ∙ e
 
 -- the places before each test
@@ -35,7 +37,9 @@ cast-t9 : tie.Need-cast-t9
 cast-t9 c = search needs
 
 returns : tie.Need-returns
-returns c = let s = c .before .before in judged-taken (s .args .rule) (s .args .both) (s .args .up) (s .args .reached) (s .args .key) (told (c .before) (c .if1 .taken))
+returns c =
+    let s = c .before .before in
+    judged-taken (s .args .rule) (s .args .both) (s .args .up) (s .args .reached) (s .args .key) (told (c .before) (c .if1 .taken))
 
 returns-2 : tie.Need-returns-2
 returns-2 c =
@@ -51,7 +55,8 @@ returns-3 c =
     let r = c .before .before in
     let n = not-taken r in
     let s = stepped n .before in
-    judged-old (s .args .rule) (s .args .both) (s .args .up) (s .args .reached) (s .args .key) (told (stepped n) (n .if1 .left)) (r .if2 .left) (sym (c .before .is-old .ensures) ∙ c .if3 .taken)
+    judged-old (s .args .rule) (s .args .both) (s .args .up) (s .args .reached) (s .args .key) (told (stepped n) (n .if1 .left))
+    (r .if2 .left) (sym (c .before .is-old .ensures) ∙ c .if3 .taken)
 
 returns-4 : tie.Need-returns-4
 returns-4 c =
@@ -59,7 +64,8 @@ returns-4 c =
     let r = with-room y in
     let n = not-taken r in
     let s = stepped n .before in
-    judged-same (s .args .rule) (s .args .both) (s .args .up) (s .args .reached) (s .args .key) (told (stepped n) (n .if1 .left)) (r .if2 .left) (sym (y .before .is-old .ensures) ∙ y .if3 .left) (c .if4 .taken)
+    judged-same (s .args .rule) (s .args .both) (s .args .up) (s .args .reached) (s .args .key) (told (stepped n) (n .if1 .left))
+    (r .if2 .left) (sym (y .before .is-old .ensures) ∙ y .if3 .left) (c .if4 .taken)
 
 on-side-requires : tie.Need-on-side-requires
 on-side-requires c κs = search needs
@@ -71,7 +77,8 @@ returns-5 c =
     let r = with-room y in
     let n = not-taken r in
     let s = stepped n .before in
-    judged-side (s .args .rule) (s .args .both) (s .args .up) (s .args .reached) (s .args .key) (told (stepped n) (n .if1 .left)) (r .if2 .left) (sym (y .before .is-old .ensures) ∙ y .if3 .left) (d .if4 .left)
+    judged-side (s .args .rule) (s .args .both) (s .args .up) (s .args .reached) (s .args .key) (told (stepped n) (n .if1 .left))
+    (r .if2 .left) (sym (y .before .is-old .ensures) ∙ y .if3 .left) (d .if4 .left)
     (rw (c .before .on-side .ensures) at (c .if5 .taken))
 
 returns-6 : tie.Need-returns-6
@@ -81,7 +88,8 @@ returns-6 c =
     let r = with-room y in
     let n = not-taken r in
     let s = stepped n .before in
-    judged-layer (s .args .rule) (s .args .both) (s .args .up) (s .args .reached) (s .args .key) (told (stepped n) (n .if1 .left)) (r .if2 .left) (sym (y .before .is-old .ensures) ∙ y .if3 .left) (d .if4 .left)
+    judged-layer (s .args .rule) (s .args .both) (s .args .up) (s .args .reached) (s .args .key) (told (stepped n) (n .if1 .left))
+    (r .if2 .left) (sym (y .before .is-old .ensures) ∙ y .if3 .left) (d .if4 .left)
     (rw (c .before .on-side .ensures) at (c .if5 .left))
 
 pub judge-spec : {M : Type 1} → statement M
