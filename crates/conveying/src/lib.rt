@@ -1,5 +1,5 @@
-// Turn after turn on lent buffers, then the last line: what one read brings is told, and given to be written before the next read. A read that
-// fails is said on standard error, with the system's words. Crate `relaying` calls `relay_lines`.
+// Turn after turn on lent buffers, then the last line: what one read brings is told, and given to be written before the next read.
+// A read that fails is said on standard error, with the system's words. Crate `relaying` calls `relay_lines`.
 use delivering::Handed;
 use delivering::Pipes;
 use delivering::Went;
@@ -27,8 +27,13 @@ fn turn(
     err: &mut [u8],
 ) -> Handed
     requires { ⌜ TurnRoom (now held) spot (now piece) (now out) (now err) ⌝ }
-    ensures handed { λ r. ⌜ Turned (r .went) kind (now (held .entry)) spot (now (out .entry)) (now (err .entry)) r (now (held .exit)) (now (piece .exit)) (now (out .exit)) (now (err .exit)) ⌝ }
-    ensures sizes { λ _. ⌜ (length (now (piece .exit)) ≡ length (now (piece .entry))) × (length (now (out .exit)) ≡ length (now (out .entry))) × (length (now (err .exit)) ≡ length (now (err .entry))) ⌝ }
+    ensures handed { λ r.
+        ⌜ Turned (r .went) kind (now (held .entry)) spot (now (out .entry)) (now (err .entry))
+        r (now (held .exit)) (now (piece .exit)) (now (out .exit)) (now (err .exit)) ⌝ }
+    ensures sizes { λ _.
+        ⌜ (length (now (piece .exit)) ≡ length (now (piece .entry)))
+        × (length (now (out .exit)) ≡ length (now (out .entry)))
+        × (length (now (err .exit)) ≡ length (now (err .entry))) ⌝ }
 {
     let heard = read_some(pipes.input, piece);
     let got = heard.got;

@@ -7,6 +7,19 @@ use borrow.Author.Needs.{needs}
 use Rattle.conveying.proofs.relay_lines.Statement.{statement}
 use Rattle.conveying.proofs.relay_lines.Tie as tie
 
+-- The places of the turns: where the output came back, the call itself, where the first buffer was lent, and the start.
+abbrev out-back : tie.After-has-ended → tie.After-out
+out-back c = c .before .before .before .before
+
+abbrev ran : tie.After-out → tie.After-turns
+ran c = c .before .before .before .before .before
+
+abbrev held-lent : tie.After-turns → tie.After-turns-arg
+held-lent c = c .before .before .before .before
+
+abbrev start : tie.After-turns → tie.Start
+start c = held-lent c .before .before .before .before .before
+
 turns-requires : tie.Need-turns-requires
 turns-requires c κs = search needs
 
@@ -15,10 +28,11 @@ has-ended-requires c κs = search needs
 
 finish-requires : tie.Need-finish-requires
 finish-requires c κs =
-    let errs = c .before .before .before .before .before .before in
-    let outs = errs .before .before in
-    let ran = outs .before .before .before .before .before in
-    let start = ran .before .before .before .before .before .before .before .before .before in
+    let asked = c .before .before .before .before in
+    let errs = asked .before .before in
+    let outs = out-back asked in
+    let ran = ran outs in
+    let start = start ran in
     let same-out = outs .out .given in
     let same-err = errs .err .given in
     let out-line = start .pre .out-line in
@@ -43,10 +57,11 @@ same-length-4 c = search needs
 
 returns : tie.Need-returns
 returns c =
-    let done = c .before .before .before .before .before .before in
+    let err-back = c .before in
+    let done = err-back .before .before .before .before .before in
     let test = done .before .before .before .before in
     let asked = test .before in
-    let ran = asked .before .before .before .before .before .before .before .before .before in
+    let ran = ran (out-back asked) in
     relayed-to-end (ran .turns .ensures) (sym (asked .has-ended .ensures) ∙ test .if1 .taken) (done .finish .ensures)
 
 same-length-5 : tie.Need-same-length-5
@@ -65,7 +80,7 @@ returns-2 : tie.Need-returns-2
 returns-2 c =
     let test = c in
     let asked = test .before in
-    let ran = asked .before .before .before .before .before .before .before .before .before in
+    let ran = ran (out-back asked) in
     relayed-before-end (ran .turns .ensures) (sym (asked .has-ended .ensures) ∙ test .if1 .left)
 
 pub relay-lines-spec : {M : Type 1} → statement M

@@ -25,16 +25,32 @@ idle-requires c κs = search needs
 same-length : tie.Need-same-length
 same-length c = search needs
 
+-- The places of a turn that read something: where the messages came back, the piece told, the bytes counted, and the test that there are some.
+abbrev err-back : tie.After-give → tie.After-err
+err-back c = c .before .before .before .before
+
+abbrev ran : tie.After-give → tie.After-tell-piece
+ran c = err-back c .before .before .before .before .before
+
+abbrev counted : tie.After-tell-piece → tie.After-count
+counted c = c .before .before .before .before .before
+
+abbrev got-some : tie.After-count → tie.Else2
+got-some c = c .before .before
+
 -- what the read answered is what the tests ask
-came : (c : tie.After-struct-told2) → toZ w64 (ofZ w64 (c .before .before .before .read-some .result .got)) ≡ c .before .before .before .read-some .result .got
+abbrev answered : tie.After-struct-told2 → tie.After-read-some
+answered c = c .before .before .before
+
+came : (c : tie.After-struct-told2) → toZ w64 (ofZ w64 (answered c .read-some .result .got)) ≡ answered c .read-some .result .got
 came c = search needs
 
 returns : tie.Need-returns
 returns c =
     let if-failed = c .before .before .before in
     let told = if-failed .before in
-    let read = told .before .before .before in
-    let idle = idle-turn _ _ _ _ _ refl (read .read-some .ensures .0) in
+    let read = answered told in
+    let idle = idle-turn refl (read .read-some .ensures .0) in
     (rw (c .idle .ensures) (idle, rw (came told) at (if-failed .if1 .taken)), (read .read-some .ensures .1, refl, refl))
 
 idle-requires-2 : tie.Need-idle-requires-2
@@ -48,8 +64,8 @@ returns-2 c =
     let if-none = c .before in
     let if-some = if-none .before in
     let told = if-some .before in
-    let read = told .before .before .before in
-    let idle = idle-turn _ _ _ _ _ refl (read .read-some .ensures .0) in
+    let read = answered told in
+    let idle = idle-turn refl (read .read-some .ensures .0) in
     let zero = is-zero (read .read-some .result .got) (rw (came told) at (if-some .if1 .left)) (if-none .if2 .taken) in
     (rw (c .idle2 .ensures) (idle, zero), (read .read-some .ensures .1, refl, refl))
 
@@ -73,7 +89,8 @@ same-length-3 c = search needs
 
 same-length-4 : tie.Need-same-length-4
 same-length-4 c =
-    let read = c .before .before .before .before .before .before .before .before .before .before .before .before .before .before .before .before .before .before .before .before .before in
+    let told = got-some (counted (ran c)) .before .before in
+    let read = answered told in
     read .read-some .ensures .1
 
 same-length-5 : tie.Need-same-length-5
@@ -84,15 +101,17 @@ same-length-6 c = search needs
 
 returns-3 : tie.Need-returns-3
 returns-3 c =
-    let ran = c .before .before .before .before .before .before .before .before .before in
-    let counted = ran .before .before .before .before .before in
-    let some = counted .before .before in
+    let ran = ran c in
+    let counted = counted ran in
+    let some = got-some counted in
     let if-some = some .before in
     let told = if-some .before in
-    let read = told .before .before .before in
+    let read = answered told in
     let positive = is-positive (read .read-some .result .got) (rw (came told) at (if-some .if1 .left)) (some .if2 .left) in
-    let all = ran .tell-piece .ensures in
-    (told-turn _ (counted .count .ensures .1) (came told) all positive (c .give .ensures), (read .read-some .ensures .1, added-length (all .to-out), added-length (all .to-err)))
+    let all = ran .tell-piece .ensures in (
+      told-turn _ (counted .count .ensures .1) (came told) all positive (c .give .ensures),
+      (read .read-some .ensures .1, added-length (all .to-out), added-length (all .to-err)),
+    )
 
 pub turn-spec : {M : Type 1} → statement M
 turn-spec =

@@ -23,15 +23,27 @@ Inv-loop kind held₀ pipes piece₀ out₀ err₀ handed₀ left₀ held piece 
 abbrev μ-loop : tie.MeasureT-loop
 μ-loop kind held₀ pipes piece₀ out₀ err₀ handed₀ left₀ held piece out err handed left = left
 
+-- The places of the first turn: where the output came back, the call itself, where the first buffer was lent, and the start.
+abbrev out-back : tie.After-slice-known8 Inv-loop μ-loop → tie.After-out Inv-loop μ-loop
+out-back c = c .before .before .before
+
+abbrev first-turn : tie.After-slice-known8 Inv-loop μ-loop → tie.After-turn Inv-loop μ-loop
+first-turn c = out-back c .before .before .before .before .before
+
+abbrev held-lent : tie.After-turn Inv-loop μ-loop → tie.After-turn-arg Inv-loop μ-loop
+held-lent c = c .before .before .before .before
+
+abbrev start : tie.After-turn Inv-loop μ-loop → tie.Start Inv-loop μ-loop
+start c = held-lent c .before .before .before .before .before
+
 turn-requires : tie.Need-turn-requires Inv-loop μ-loop
 turn-requires c κs = search needs
 
 loop-holds : tie.Need-loop-holds Inv-loop μ-loop
 loop-holds c =
-    let first = c .before .before .before .before .before .before .before .before in
-    let start = first .before .before .before .before .before .before .before .before .before in
+    let first = first-turn c in
     let sizes = first .turn .ensures .1 in (
-      still-room _ _ _ (first .turn .result) _ _ _ _ (start .pre) (first .turn .ensures .0) (sizes .0) (sizes .1) (sizes .2),
+      still-room _ (first .turn .result) (start first .pre) (first .turn .ensures .0) (sizes .0) (sizes .1) (sizes .2),
       omega arith,
       refl,
       refl,
@@ -54,19 +66,23 @@ loop-less c = search needs
 
 loop-again : tie.Need-loop-again Inv-loop μ-loop
 loop-again c =
-    let next = c .before .before .before .before .before .before .before .before in
-    let on = next .before .before .before .before .before .before .before in
+    let next-out-back = c .before .before .before in
+    let next = next-out-back .before .before .before .before .before in
+    let next-held-lent = next .before .before .before .before in
+    let on = next-held-lent .before .before .before in
     let asked = on .before in
     let at = asked .before .before in
     let inv = at .loop .inv in
     let sizes = next .turn2 .ensures .1 in (
-      still-room _ _ _ (next .turn2 .result) _ _ _ _ (inv .0) (next .turn2 .ensures .0) (sizes .0) (sizes .1) (sizes .2),
+      still-room _ (next .turn2 .result) (inv .0) (next .turn2 .ensures .0) (sizes .0) (sizes .1) (sizes .2),
       omega arith,
       search needs,
       search needs,
       search needs,
       search needs,
-      λ h s n e reached. renumber (omega arith) (reach-next _ _ _ _ _ (inv .6 h s (n - 1) (omega arith) reached) (sym (asked .goes-on .ensures) ∙ on .if1 .taken) (next .turn2 .ensures .0)),
+      λ h s n e reached.
+          let before = inv .6 h s (n - 1) (omega arith) reached in
+          renumber (omega arith) (reach-next _ before (sym (asked .goes-on .ensures) ∙ on .if1 .taken) (next .turn2 .ensures .0)),
     )
 
 same-length : tie.Need-same-length Inv-loop μ-loop
@@ -86,8 +102,8 @@ returns c =
     let off = c in
     let asked = off .before in
     let at = asked .before .before in
-    let first = at .before .before .before .before .before .before .before .before .before in
-    looped (at .loop .inv .6 _ _ (mostTurns - at .loop .left) (omega arith) (reach-first _ _ _ _ _ _ _ (first .turn .ensures .0)))
+    let first = first-turn (at .before) in
+    looped (at .loop .inv .6 _ _ (mostTurns - at .loop .left) (omega arith) (reach-first _ _ _ (first .turn .ensures .0)))
     (λ on. absurd (Bool.true≢false (sym (ap isOn on) ∙ sym (asked .goes-on .ensures) ∙ off .if1 .left)))
 
 same-length-5 : tie.Need-same-length-5 Inv-loop μ-loop
@@ -105,8 +121,8 @@ same-length-8 c = search needs
 returns-2 : tie.Need-returns-2 Inv-loop μ-loop
 returns-2 c =
     let at = c .before in
-    let first = at .before .before .before .before .before .before .before .before .before in
-    looped (at .loop .inv .6 _ _ mostTurns (omega arith) (reach-first _ _ _ _ _ _ _ (first .turn .ensures .0))) (λ on. refl)
+    let first = first-turn (at .before) in
+    looped (at .loop .inv .6 _ _ mostTurns (omega arith) (reach-first _ _ _ (first .turn .ensures .0))) (λ on. refl)
 
 pub turns-spec : {M : Type 1} → statement M
 turns-spec =
