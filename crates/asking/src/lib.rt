@@ -35,10 +35,13 @@ fn write_line(out: &mut [u8], call: Call) -> usize
     }
 }
 
-// A line with its number, given without its newline: the line of its call at the front of `out`, or a message at the front of `err`.
+// A line with its number, given without its newline: the line of its call at the front of `out`, or a message at the front
+// of `err`.
 pub fn ask_line(out: &mut [u8], err: &mut [u8], line: &[u8], number: u64) -> Told
     requires { ⌜ (128 ≤ length (now out)) × (128 ≤ length (now err)) ⌝ }
-    ensures { λ r. ⌜ Wrote (now (out .entry)) (now (err .entry)) (asked number (now (line .entry))) (r .out) (r .err) (now (out .exit)) (now (err .exit)) ⌝ }
+    ensures { λ r.
+        let texts = asked number (now (line .entry)) in
+        ⌜ Wrote (now (out .entry)) (now (err .entry)) texts (r .out) (r .err) (now (out .exit)) (now (err .exit)) ⌝ }
 {
     if LONGEST < line.len() {
         let n = complain(err, number, SHORTER);

@@ -13,7 +13,8 @@ use Rattle.delivering.specs.declared.Went.the-variants.{InputEnded}
 use Rattle.delivering.specs.Delivering.{Given, taken, failed, idleHanded, lastNewline, Ended}
 
 -- The end of the input: no line was begun, or the last one is told, whatever became of the write.
-pub no-last : {kind : Kind} {held out err : List ℕ} {last : Handed} (t : Handed) (h : Heard) (w : Went) → Keeps held (last .spoken .spot .len) → last .spoken .spot .len ≡ 0
+pub no-last : {kind : Kind} {held out err : List ℕ} {last : Handed} (t : Handed) (h : Heard) (w : Went)
+    → Keeps held (last .spoken .spot .len) → last .spoken .spot .len ≡ 0
     → t ≡ idleHanded (last .spoken .spot) h w → Ended kind held last out err t held out err
 unfolding feed
 no-last {kind} {held} {out} {err} {last} t h w k e f =

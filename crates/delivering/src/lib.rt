@@ -1,5 +1,5 @@
-// What a turn of the loop of `picman_ask` and `picman_say` hands on: texts given to be written, and at the end of the input its last line.
-// A write that fails is said on standard error, with the system's words. Crate `conveying` calls these.
+// What a turn of the loop of `picman_ask` and `picman_say` hands on: texts given to be written, and at the end of the input
+// its last line. A write that fails is said on standard error, with the system's words. Crate `conveying` calls these.
 use reading::Heard;
 use spots::Spot;
 use telling::Kind;
@@ -34,7 +34,8 @@ pub struct Handed {
     pub went: Went,
 }
 
-// Gives the fronts of the two buffers to be written, the messages first. A message that can't be written is lost; an output that can't ends the loop.
+// Gives the fronts of the two buffers to be written, the messages first. A message that can't be written is lost; an output
+// that can't ends the loop.
 pub fn give(pipes: Pipes, out: &[u8], err: &[u8], handed: Handed) -> Handed
     requires { ⌜ (handed .spoken .out ≤ length (now out)) × (handed .spoken .err ≤ length (now err)) ⌝ }
     ensures { λ r. ⌜ Given r handed ⌝ }
@@ -105,7 +106,9 @@ pub fn finish(
     err: &mut [u8],
 ) -> Handed
     requires { ⌜ PieceRoom (now held) (last .spoken .spot) (10 ∷ []) (now out) (now err) ⌝ }
-    ensures { λ r. ⌜ Ended kind (now (held .entry)) last (now (out .entry)) (now (err .entry)) r (now (held .exit)) (now (out .exit)) (now (err .exit)) ⌝ }
+    ensures { λ r.
+        ⌜ Ended kind (now (held .entry)) last (now (out .entry)) (now (err .entry))
+        r (now (held .exit)) (now (out .exit)) (now (err .exit)) ⌝ }
 {
     let before = last.spoken;
     let heard = last.heard;

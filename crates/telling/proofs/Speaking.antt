@@ -15,7 +15,8 @@ use Rattle.asking.specs.Asked.{Texts, texts}
 use Rattle.spots.specs.declared.Spot.{Spot}
 use Rattle.telling.specs.declared.{Kind.Kind, Spoken.Spoken}
 use Rattle.telling.specs.Told.{joined}
-use Rattle.telling.specs.Telling.{kept, Keeps, Kept, most, Speaker, speaker, speakerIn, Fed, fed, feedByte, feed, Room, TookByte, PieceRoom, ToldPiece}
+use Rattle.telling.specs.Telling.{kept, Keeps, Kept, most, Speaker, speaker, speakerIn, Fed, fed, feedByte, feed}
+use Rattle.telling.specs.Telling.{Room, TookByte, PieceRoom, ToldPiece}
 
 pub keep-more : (held : List ℕ) (len c : ℕ) → Keeps held len → len < kept → Kept held len c (len + 1) (set held len c)
 keep-more held len c k h =
@@ -42,13 +43,13 @@ added-mid out ys text at n h fits p =
     let b = p .behind in
     let size = length-drop at out in
     let mid : midOf at (length out - at) out ≡ drop at out = take-all (length out - at) (drop at out) (omega arith) in
-    let front : ys ≡ text ++ drop (0 + length text) (drop at out) = p .holds ∙ ap (λ (l : List ℕ). sets l 0 text) mid ∙ sets-eq text (drop at out) 0 (omega arith) in
+    let front : ys ≡ text ++ drop (0 + length text) (drop at out) = p .holds ∙ rw mid (sets-eq text (drop at out) 0 (omega arith)) in
     let places : at + (0 + length text) ≡ at + length text = omega arith in
-    let behind : drop (0 + length text) (drop at out) ≡ drop (at + length text) out = drop-drop (0 + length text) at out ∙ ap (λ (m : ℕ). drop m out) places in
+    let behind : drop (0 + length text) (drop at out) ≡ drop (at + length text) out = drop-drop (0 + length text) at out ∙ rw places refl in
     let post : postOf at (length out - at) out ≡ [] = drop-of-length-le (drop at out) {i = length out - at} (omega arith) in
     record {
       holds =
-          ap (λ (l : List ℕ). take at out ++ l) (ap (λ (l : List ℕ). ys ++ l) post ∙ append-nil ys ∙ front ∙ ap (λ (l : List ℕ). text ++ l) behind)
+          ap (_++_ (take at out)) (ap (_++_ ys) post ∙ append-nil ys ∙ front ∙ ap (_++_ text) behind)
           ∙ sym (append-assoc (take at out) text (drop (at + length text) out))
           ∙ sym (sets-eq text out at (omega arith));
       behind = omega arith;
@@ -60,7 +61,7 @@ pub took-other : {kind : Kind} {held out err held′ : List ℕ} {s : Spoken} {c
 took-other {s} {c} other k =
     let e = ne-eqb c 10 other in
     record {
-      speaker-is = rw e (ap (λ (l : List ℕ). speaker l (s .spot .number)) (k .line));
+      speaker-is = rw (e, k .line) refl;
       keeps = k .keeps;
       to-out = rw e (record { holds = refl; behind = omega arith });
       to-err = rw e (record { holds = refl; behind = omega arith });
@@ -108,7 +109,8 @@ module _ {kind : Kind} {held₀ : List ℕ} {spot : Spot} {piece out₀ err₀ :
     err-most = omega arith;
   }
 
-  module _ {held out err : List ℕ} {r : Spoken} {i : ℕ} (f : SoFar kind held₀ spot piece out₀ err₀ held out err r i) (room : PieceRoom held₀ spot piece out₀ err₀) where
+  module _ {held out err : List ℕ} {r : Spoken} {i : ℕ}
+      (f : SoFar kind held₀ spot piece out₀ err₀ held out err r i) (room : PieceRoom held₀ spot piece out₀ err₀) where
     pub so-far-room : i < length piece → Room held r out err
     so-far-room h =
         let a = room .out-room in
@@ -136,8 +138,8 @@ module _ {kind : Kind} {held₀ : List ℕ} {spot : Spot} {piece out₀ err₀ :
           within = omega arith;
           speaker-is = t .speaker-is ∙ ap (λ (x : Fed). x .speaker) said ∙ sym (ap (λ (x : Fed). x .speaker) all);
           keeps = t .keeps;
-          to-out = subst (λ (x : List ℕ). Added out₀ 0 x (r′ .out) out′) (ap (λ (x : Fed). before .texts .out ++ x .texts .out) said ∙ sym (ap (λ (x : Fed). x .texts .out) all)) (added-then (f .to-out) (t .to-out));
-          to-err = subst (λ (x : List ℕ). Added err₀ 0 x (r′ .err) err′) (ap (λ (x : Fed). before .texts .err ++ x .texts .err) said ∙ sym (ap (λ (x : Fed). x .texts .err) all)) (added-then (f .to-err) (t .to-err));
+          to-out = rw (all, sym said) (added-then (f .to-out) (t .to-out));
+          to-err = rw (all, sym said) (added-then (f .to-err) (t .to-err));
           out-most = omega arith;
           err-most = omega arith;
         }

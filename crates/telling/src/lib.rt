@@ -1,5 +1,5 @@
-// Lines told one by one as their bytes come: commands as call lines, or answers as words. A byte that ends a line has its texts put behind
-// those of the lines before, so what stands in the buffers after a piece of the input is what its lines give.
+// Lines told one by one as their bytes come: commands as call lines, or answers as words. A byte that ends a line has its texts
+// put behind those of the lines before, so what stands in the buffers after a piece of the input is what its lines give.
 use asking::LONGEST;
 use asking::Told;
 use asking::ask_line;
@@ -8,9 +8,10 @@ use spots::Spot;
 use spots::next_spot;
 ghost use Prim.Native.Nat.{_≤_};
 ghost use lib.ListN.{length};
+ghost use Rattle.buffer.specs.Buffer.{newline};
 ghost use Rattle.asking.specs.Asked.{Wrote};
 ghost use Rattle.telling.specs.Told.{told};
-ghost use Rattle.telling.specs.Telling.{Keeps, Kept, Ends, Room, TookByte, PieceRoom, ToldPiece};
+ghost use Rattle.telling.specs.Telling.{most, Keeps, Kept, Ends, Room, TookByte, PieceRoom, ToldPiece};
 
 // What the lines are.
 pub enum Kind {
@@ -32,7 +33,7 @@ pub struct Spoken {
 }
 
 fn say_told(out: &mut [u8], line: &[u8], number: u64) -> Told
-    requires { ⌜ 128 ≤ length (now out) ⌝ }
+    requires { ⌜ most ≤ length (now out) ⌝ }
     ensures { λ r. ⌜ Ends (now (out .entry)) number (now (line .entry)) r (now (out .exit)) ⌝ }
 {
     Told {
@@ -43,8 +44,10 @@ fn say_told(out: &mut [u8], line: &[u8], number: u64) -> Told
 
 // A line with its number, given without its newline.
 fn tell_line(kind: Kind, out: &mut [u8], err: &mut [u8], line: &[u8], number: u64) -> Told
-    requires { ⌜ (128 ≤ length (now out)) × (128 ≤ length (now err)) ⌝ }
-    ensures { λ r. ⌜ Wrote (now (out .entry)) (now (err .entry)) (told kind number (now (line .entry))) (r .out) (r .err) (now (out .exit)) (now (err .exit)) ⌝ }
+    requires { ⌜ (most ≤ length (now out)) × (most ≤ length (now err)) ⌝ }
+    ensures { λ r.
+        let texts = told kind number (now (line .entry)) in
+        ⌜ Wrote (now (out .entry)) (now (err .entry)) texts (r .out) (r .err) (now (out .exit)) (now (err .exit)) ⌝ }
 {
     match kind {
         Kind::Ask => ask_line(out, err, line, number),
@@ -67,7 +70,9 @@ fn keep(held: &mut [u8], len: usize, c: u8) -> usize
 // The line has ended: its texts go behind what stands in the buffers.
 fn end_line(kind: Kind, held: &[u8], from: Spoken, out: &mut [u8], err: &mut [u8]) -> Spoken
     requires { ⌜ Room (now held) from (now out) (now err) ⌝ }
-    ensures { λ r. ⌜ TookByte kind (now (held .entry)) from 10 (now (out .entry)) (now (err .entry)) r (now (held .entry)) (now (out .exit)) (now (err .exit)) ⌝ }
+    ensures { λ r.
+        let held = now (held .entry) in
+        ⌜ TookByte kind held from newline (now (out .entry)) (now (err .entry)) r held (now (out .exit)) (now (err .exit)) ⌝ }
 {
     let spot = from.spot;
     let len = spot.len;
@@ -98,7 +103,9 @@ fn take_byte(
     err: &mut [u8],
 ) -> Spoken
     requires { ⌜ Room (now held) from (now out) (now err) ⌝ }
-    ensures { λ r. ⌜ TookByte kind (now (held .entry)) from c (now (out .entry)) (now (err .entry)) r (now (held .exit)) (now (out .exit)) (now (err .exit)) ⌝ }
+    ensures { λ r.
+        ⌜ TookByte kind (now (held .entry)) from c (now (out .entry)) (now (err .entry))
+        r (now (held .exit)) (now (out .exit)) (now (err .exit)) ⌝ }
 {
     if c == b'\n' {
         return end_line(kind, held, from, out, err);
@@ -126,7 +133,9 @@ pub fn tell_piece(
     err: &mut [u8],
 ) -> Spoken
     requires { ⌜ PieceRoom (now held) spot (now piece) (now out) (now err) ⌝ }
-    ensures { λ r. ⌜ ToldPiece kind (now (held .entry)) spot (now (piece .entry)) (now (out .entry)) (now (err .entry)) r (now (held .exit)) (now (out .exit)) (now (err .exit)) ⌝ }
+    ensures { λ r.
+        ⌜ ToldPiece kind (now (held .entry)) spot (now (piece .entry)) (now (out .entry)) (now (err .entry))
+        r (now (held .exit)) (now (out .exit)) (now (err .exit)) ⌝ }
 {
     let mut spoken = Spoken {
         spot,

@@ -11,7 +11,9 @@ idle-requires c κs = search needs
 returns : tie.Need-returns
 returns c =
     let test = c .before in
-    let start = test .before .before .before .before .before .before .before .before in
+    let spot-read = test .before .before in
+    let last-read = spot-read .before .before in
+    let start = last-read .before .before .before .before in
     no-last _ _ _ (start .pre .keeps) (test .if1 .taken) (c .idle .ensures)
 
 slice-aggregate-tell-piece : tie.Need-slice-aggregate-tell-piece
@@ -34,7 +36,8 @@ same-length-3 c = search needs
 
 returns-2 : tie.Need-returns-2
 returns-2 c =
-    let done = c .before .before .before .before .before .before .before .before .before in
+    let err-back = c .before .before .before .before in
+    let done = err-back .before .before .before .before .before in
     let test = done .before .before .before .before .before in
     last-told (test .if1 .left) (done .tell-piece .ensures) (c .give .ensures)
 

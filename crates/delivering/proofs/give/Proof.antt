@@ -7,14 +7,18 @@ use borrow.Author.Needs.{needs}
 use Rattle.delivering.proofs.give.Statement.{statement}
 use Rattle.delivering.proofs.give.Tie as tie
 
+-- The start, from where the messages are about to be written.
+abbrev start : tie.After-write-all-arg → tie.Start
+start c = c .before .before .before .before .before
+
 slice-aggregate-write-all : tie.Need-slice-aggregate-write-all
-slice-aggregate-write-all c = sym (length-take-le _ _ (c .before .before .before .before .before .pre .1))
+slice-aggregate-write-all c = sym (length-take-le _ _ (start c .pre .1))
 
 write-all-requires : tie.Need-write-all-requires
 write-all-requires c κs = search needs
 
 slice-aggregate-write-all-2 : tie.Need-slice-aggregate-write-all-2
-slice-aggregate-write-all-2 c = sym (length-take-le _ _ (c .before .before .before .before .before .before .before .before .pre .0))
+slice-aggregate-write-all-2 c = sym (length-take-le _ _ (start (c .before .before .before) .pre .0))
 
 write-all-requires-2 : tie.Need-write-all-requires-2
 write-all-requires-2 c κs = search needs

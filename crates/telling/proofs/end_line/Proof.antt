@@ -11,6 +11,13 @@ use borrow.Author.Needs.{needs}
 use Rattle.telling.proofs.end_line.Statement.{statement}
 use Rattle.telling.proofs.end_line.Tie as tie
 
+-- Where the line's spot was read, and the start.
+abbrev spot-read : tie.After-tell-line-arg3 → tie.After-spot
+spot-read c = c .before .before .before
+
+abbrev start : tie.After-tell-line-arg3 → tie.Start
+start c = spot-read c .before .before .before .before
+
 sub-tell-line : tie.Need-sub-tell-line
 sub-tell-line c = search needs
 
@@ -31,7 +38,7 @@ part-tell-line-end-2 c = search needs
 
 slice-aggregate-tell-line : tie.Need-slice-aggregate-tell-line
 slice-aggregate-tell-line c =
-    let start = c .before .before .before .before .before .before .before in
+    let start = start c in
     let k = start .pre .keeps in
     sym (length-take-le (start .args .from .spot .len) (start .args .held .now) (let a = k .long in let b = k .fits in omega arith))
 
@@ -57,7 +64,7 @@ returns : tie.Need-returns
 returns c =
     let next = c .before .before in
     let line = next .before .before .before .before .before in
-    let start = line .before .before .before .before .before .before .before .before in
+    let start = start (line .before) in
     let from = start .args .from in
     let held = start .args .held .now in
     let out = start .args .out .now in

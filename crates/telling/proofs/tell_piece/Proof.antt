@@ -35,14 +35,20 @@ loop-less c = omega arith
 
 loop-again : tie.Need-loop-again Inv-loop μ-loop
 loop-again c =
-    let took = c .before .before .before .before .before .before in
+    let err-back = c .before in
+    let took = err-back .before .before .before .before .before in
     let inside = took .before .before .before .before .before in
     let turn = inside .before in
     let start = turn .before .before .before .before .before in
     so-far-turn (turn .loop .inv) (start .pre) (inside .loop-test .taken) (took .take-byte .ensures)
 
 same-length : tie.Need-same-length Inv-loop μ-loop
-same-length c = let k = c .before .loop .inv .keeps .long in let b = c .before .before .before .before .before .before .pre .keeps .long in omega arith
+same-length c =
+    let turn = c .before in
+    let start = turn .before .before .before .before .before in
+    let k = turn .loop .inv .keeps .long in
+    let b = start .pre .keeps .long in
+    omega arith
 
 same-length-2 : tie.Need-same-length-2 Inv-loop μ-loop
 same-length-2 c = added-length (c .before .loop .inv .to-out)
