@@ -12,7 +12,9 @@ ghost use Rattle.hex.specs.Hex.{isDigit, bytesOf};
 pub fn decode(digits: &[u8], bytes: &mut [u8]) -> bool
     requires { ⌜ (length (now digits) ≤ 2 * length (now bytes)) × (length (now digits) % 2 ≡ 0) ⌝ }
     ensures hex { λ r. ⌜ r ≡ allOf isDigit (now (digits .entry)) ⌝ }
-    ensures bytes { λ r. ⌜ (r ≡ true → take (length (now (digits .entry)) / 2) (now (bytes .exit)) ≡ bytesOf (now (digits .entry))) ⌝ }
+    ensures bytes { λ r.
+        let characters = now (digits .entry) in
+        ⌜ (r ≡ true → take (length characters / 2) (now (bytes .exit)) ≡ bytesOf characters) ⌝ }
 {
     let n = digits.len() / 2;
     let mut i = 0;

@@ -20,7 +20,9 @@ ghost use Rattle.framing.specs.Framing.{lineSize, wholeOf};
 pub fn read_framed(digits: &[u8], bytes: &mut [u8]) -> bool
     requires { ⌜ length (now digits) ≤ 2 * length (now bytes) ⌝ }
     ensures framed { λ r. ⌜ r ≡ isFramed (now (digits .entry)) ⌝ }
-    ensures bytes { λ r. ⌜ (r ≡ true → take (length (now (digits .entry)) / 2) (now (bytes .exit)) ≡ bytesOf (now (digits .entry))) ⌝ }
+    ensures bytes { λ r.
+        let characters = now (digits .entry) in
+        ⌜ (r ≡ true → take (length characters / 2) (now (bytes .exit)) ≡ bytesOf characters) ⌝ }
 {
     if digits.len() % 2 != 0 {
         return false;
@@ -35,7 +37,9 @@ pub fn read_framed(digits: &[u8], bytes: &mut [u8]) -> bool
 // The digits of bytes, one behind the other.
 fn write_digits(target: &mut [u8], bytes: &[u8])
     requires { ⌜ 2 * length (now bytes) ≤ length (now target) ⌝ }
-    ensures { λ _. ⌜ Stored (now (target .entry)) 0 (digitsOf (now (bytes .entry))) (2 * length (now (bytes .entry))) (now (target .exit)) ⌝ }
+    ensures { λ _.
+        let all = now (bytes .entry) in
+        ⌜ Stored (now (target .entry)) 0 (digitsOf all) (2 * length all) (now (target .exit)) ⌝ }
 {
     let mut i = 0;
     while i < bytes.len() {

@@ -7,7 +7,9 @@ ghost use Rattle.poc.specs.PictureNumber.{derive};
 
 // The next picture number, on a record that the caller lends.
 pub fn evc_poc_derivation(log2_sub_gop_length: u8, tid: u8, poc: &mut EvcPoc) -> PocAnswer
-    ensures { λ r. ⌜ (r ≡ derive «log2_sub_gop_length» tid (now (poc .entry)) .answer) × (now (poc .exit) ≡ derive «log2_sub_gop_length» tid (now (poc .entry)) .poc) ⌝ }
+    ensures { λ r.
+        let derived = derive «log2_sub_gop_length» tid (now (poc .entry)) in
+        ⌜ (r ≡ derived .answer) × (now (poc .exit) ≡ derived .poc) ⌝ }
 {
     let before = *poc;
     let derived = poc_derivation(log2_sub_gop_length, tid, before);

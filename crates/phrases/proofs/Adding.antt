@@ -88,4 +88,8 @@ pub fewest-most : (r n : ℕ) → Fewest 10 1 n r → n < 2 ^ 64 → r ≤ 20
 fewest-most r n f h = ⊎-elim (λ (l : r < 21). omega arith) (λ (g : 21 ≤ r). absurd (many g)) (lt-or-ge r 21)
   where
     many : 21 ≤ r → ⊥
-    many g = let l : 20 ≤ r - 1 = omega arith in let a : 10 ^ 20 ≤ 10 ^ (r - 1) = pow-le-pow-right (omega arith) {i = 20} {j = r - 1} l in let b = f .2 (omega arith) in omega arith
+    many g =
+        let l : 20 ≤ r - 1 = omega arith in
+        let a : 10 ^ 20 ≤ 10 ^ (r - 1) = pow-le-pow-right (omega arith) {i = 20} {j = r - 1} l in
+        let b = f .2 (omega arith) in
+        omega arith

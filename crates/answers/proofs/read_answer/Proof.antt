@@ -4,6 +4,7 @@ use Prim.Native.Nat.{ℕ, _-_, _/_}
 use native.Mathlib.Omega.{arith}
 use mathlib.Core.Path.{_≡_, sym, ap, _∙_}
 use mathlib.Core.Bool.{true}
+use mathlib.Core.List.{List}
 use lib.ListN.{length, take}
 use borrow.Author.Tests.{not-true, not-false}
 use Rattle.hex.specs.Hex.{bytesOf}
@@ -29,26 +30,36 @@ read-framed-requires c κs = search needs
 returns-2 : tie.Need-returns-2
 returns-2 c = ap answerFor (sym (unframed answerKind _ (sym (c .before .before .read-framed .ensures .0) ∙ not-true _ (c .if2 .taken))))
 
--- The line passed the test of its length.
-sixteen : (c : tie.Else2) → length (c .before .before .before .before .before .before .args .digits .now) ≡ 16
-sixteen c = let l = c .before .before .before .before .if1 .left in omega arith
+-- Where a line was read as framed, where its length was tested, and its characters.
+abbrev read : tie.Else2 → tie.After-read-framed
+read c = c .before .before
 
-is-framed : (c : tie.Else2) → isFramed (c .before .before .before .before .before .before .args .digits .now) ≡ true
-is-framed c = sym (c .before .before .read-framed .ensures .0) ∙ not-false _ (c .if2 .left)
+abbrev long-enough : tie.Else2 → tie.Else1
+long-enough c = read c .before .before
+
+abbrev characters : tie.Else2 → List ℕ
+characters c = long-enough c .before .before .args .digits .now
+
+-- The line passed the test of its length.
+sixteen : (c : tie.Else2) → length (characters c) ≡ 16
+sixteen c = let l = long-enough c .if1 .left in omega arith
+
+is-framed : (c : tie.Else2) → isFramed (characters c) ≡ true
+is-framed c = sym (read c .read-framed .ensures .0) ∙ not-false _ (c .if2 .left)
 
 -- The body of the bytes that were written.
-body : (c : tie.Else2) → take 7 (c .before .before .read-framed .last .1 .0) ≡ bodyOf (bytesOf (c .before .before .before .before .before .before .args .digits .now))
+body : (c : tie.Else2) → take 7 (read c .read-framed .last .1 .0) ≡ bodyOf (bytesOf (characters c))
 body c =
-    let digits = c .before .before .before .before .before .before .args .digits .now in
-    let bytes = c .before .before .read-framed .last .1 .0 in
+    let digits = characters c in
+    let bytes = read c .read-framed .last .1 .0 in
     let size = sixteen c in
     let seven : length digits / 2 - 1 ≡ 7 = omega arith in
-    ap (λ (n : ℕ). take n bytes) (sym seven) ∙ body-at-front digits bytes (c .before .before .read-framed .ensures .1 (not-false _ (c .if2 .left)))
+    rw seven at (body-at-front digits bytes (read c .read-framed .ensures .1 (not-false _ (c .if2 .left))))
 
-seven : (c : tie.Else2) → length (take 7 (c .before .before .read-framed .last .1 .0)) ≡ 7
+seven : (c : tie.Else2) → length (take 7 (read c .read-framed .last .1 .0)) ≡ 7
 seven c =
-    let bytes = bytesOf (c .before .before .before .before .before .before .args .digits .now) in
-    ap length (body c) ∙ omega (arith, sixteen c, bytes-length (c .before .before .before .before .before .before .args .digits .now), body-length bytes)
+    let digits = characters c in
+    ap length (body c) ∙ omega (arith, sixteen c, bytes-length digits, body-length (bytesOf digits))
 
 array-share-prefix-bytes : tie.Need-array-share-prefix-bytes
 array-share-prefix-bytes c = search needs

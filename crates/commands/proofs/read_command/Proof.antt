@@ -2,11 +2,10 @@
 -- Assumes nothing.
 use Prim.Native.Nat.{_-_, _≤_}
 use native.Mathlib.Omega.{arith}
-use mathlib.Core.Path.{_≡_, sym, ap, _∙_}
+use mathlib.Core.Path.{_≡_, refl, sym, ap, _∙_}
 use mathlib.Core.List.{[], foldl}
 use lib.ListN.{length, drop, drop-of-length-le}
 use borrow.Author.Needs.{needs}
-use Rattle.commands.specs.declared.Reading.{Reading}
 use Rattle.commands.specs.Feeding.{beginning, feed, fedDraft}
 use Rattle.concluding.specs.Concluded.{finished}
 use Rattle.commands.proofs.Fed.{fed-command, feed-turn}
@@ -23,7 +22,7 @@ begin-requires : tie.Need-begin-requires Inv-loop μ-loop
 begin-requires c κs = search needs
 
 loop-holds : tie.Need-loop-holds Inv-loop μ-loop
-loop-holds c = (omega arith, ap (λ (r : Reading). foldl feed r (c .before .before .args .line .now)) (c .begin .ensures))
+loop-holds c = (omega arith, rw (c .begin .ensures) refl)
 
 shared-slice-read-feed : tie.Need-shared-slice-read-feed Inv-loop μ-loop
 shared-slice-read-feed c = omega arith
@@ -39,8 +38,9 @@ loop-less c = omega arith
 
 loop-again : tie.Need-loop-again Inv-loop μ-loop
 loop-again c =
-    let l = c .before .before .before .loop in
-    let line = c .before .before .before .before .before .before .args .line .now in
+    let turn = c .before .before .before in
+    let l = turn .loop in
+    let line = turn .before .before .before .args .line .now in
     (omega arith, feed-turn (l .reading) (c .feed .result) line (l .i) (omega arith) (c .feed .ensures) ∙ l .inv .1)
 
 end-word-requires : tie.Need-end-word-requires Inv-loop μ-loop

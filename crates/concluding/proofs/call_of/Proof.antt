@@ -8,7 +8,8 @@ use Rattle.concluding.proofs.call_of.Statement.{statement}
 use Rattle.concluding.proofs.call_of.Tie as tie
 
 -- the fields fit their bytes
-bounds : (c : tie.Start) → (c .args .d .lead < 256) × (c .args .d .number < 2 ^ 32) × (c .args .d .layer < 256) × (c .args .d .span < 2 ^ 32) × (c .args .d .limit < 256)
+bounds : (c : tie.Start)
+    → (c .args .d .lead < 256) × (c .args .d .number < 2 ^ 32) × (c .args .d .layer < 256) × (c .args .d .span < 2 ^ 32) × (c .args .d .limit < 256)
 bounds c = (omega arith, omega arith, omega arith, omega arith, omega arith)
 
 returns : tie.Need-returns
@@ -34,8 +35,14 @@ returns-3 c =
     let test2 = test3 .before .before in
     let test1 = test2 .before .before in
     let start = test1 .before .before in
-    let b = bounds start in
-    (rw (ne-eqb (start .args .d .call) 1 (test1 .if1 .left), ne-eqb (start .args .d .call) 2 (test2 .if2 .left), eq-eqb (start .args .d .call) 3 (test3 .if3 .taken)), (omega arith, b .1, b .2, b .3))
+    let b = bounds start in (
+      rw (
+        ne-eqb (start .args .d .call) 1 (test1 .if1 .left),
+        ne-eqb (start .args .d .call) 2 (test2 .if2 .left),
+        eq-eqb (start .args .d .call) 3 (test3 .if3 .taken),
+      ),
+      (omega arith, b .1, b .2, b .3),
+    )
 
 returns-4 : tie.Need-returns-4
 unfolding CallFits
@@ -44,8 +51,15 @@ returns-4 c =
     let test3 = test4 .before .before in
     let test2 = test3 .before .before in
     let test1 = test2 .before .before in
-    let start = test1 .before .before in
-    (rw (ne-eqb (start .args .d .call) 1 (test1 .if1 .left), ne-eqb (start .args .d .call) 2 (test2 .if2 .left), ne-eqb (start .args .d .call) 3 (test3 .if3 .left), eq-eqb (start .args .d .call) 4 (test4 .if4 .taken)), tt)
+    let start = test1 .before .before in (
+      rw (
+        ne-eqb (start .args .d .call) 1 (test1 .if1 .left),
+        ne-eqb (start .args .d .call) 2 (test2 .if2 .left),
+        ne-eqb (start .args .d .call) 3 (test3 .if3 .left),
+        eq-eqb (start .args .d .call) 4 (test4 .if4 .taken),
+      ),
+      tt,
+    )
 
 returns-5 : tie.Need-returns-5
 unfolding CallFits
@@ -56,8 +70,16 @@ returns-5 c =
     let test2 = test3 .before .before in
     let test1 = test2 .before .before in
     let start = test1 .before .before in
-    let b = bounds start in
-    (rw (ne-eqb (start .args .d .call) 1 (test1 .if1 .left), ne-eqb (start .args .d .call) 2 (test2 .if2 .left), ne-eqb (start .args .d .call) 3 (test3 .if3 .left), ne-eqb (start .args .d .call) 4 (test4 .if4 .left), eq-eqb (start .args .d .call) 5 (test5 .if5 .taken)), (b .0, b .1, b .2, b .3, b .4))
+    let b = bounds start in (
+      rw (
+        ne-eqb (start .args .d .call) 1 (test1 .if1 .left),
+        ne-eqb (start .args .d .call) 2 (test2 .if2 .left),
+        ne-eqb (start .args .d .call) 3 (test3 .if3 .left),
+        ne-eqb (start .args .d .call) 4 (test4 .if4 .left),
+        eq-eqb (start .args .d .call) 5 (test5 .if5 .taken),
+      ),
+      (b .0, b .1, b .2, b .3, b .4),
+    )
 
 returns-6 : tie.Need-returns-6
 unfolding CallFits
@@ -68,8 +90,16 @@ returns-6 c =
     let test2 = test3 .before .before in
     let test1 = test2 .before .before in
     let start = test1 .before .before in
-    let b = bounds start in
-    (rw (ne-eqb (start .args .d .call) 1 (test1 .if1 .left), ne-eqb (start .args .d .call) 2 (test2 .if2 .left), ne-eqb (start .args .d .call) 3 (test3 .if3 .left), ne-eqb (start .args .d .call) 4 (test4 .if4 .left), ne-eqb (start .args .d .call) 5 (test5 .if5 .left)), (b .0, b .2))
+    let b = bounds start in (
+      rw (
+        ne-eqb (start .args .d .call) 1 (test1 .if1 .left),
+        ne-eqb (start .args .d .call) 2 (test2 .if2 .left),
+        ne-eqb (start .args .d .call) 3 (test3 .if3 .left),
+        ne-eqb (start .args .d .call) 4 (test4 .if4 .left),
+        ne-eqb (start .args .d .call) 5 (test5 .if5 .left),
+      ),
+      (b .0, b .2),
+    )
 
 pub call-of-spec : {M : Type 1} → statement M
 call-of-spec = tie.close (tie.spec returns returns-2 returns-3 returns-4 returns-5 returns-6)

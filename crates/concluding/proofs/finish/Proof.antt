@@ -16,10 +16,23 @@ call-of-requires : tie.Need-call-of-requires
 call-of-requires c κs = search needs
 
 returns-2 : tie.Need-returns-2
-returns-2 c = (rw (ne-eqb (c .before .before .before .before .before .args .d .want) 0 (c .before .before .before .if1 .left), sym (c .before .before .is-complete .ensures) ∙ c .before .if2 .taken, c .call-of .ensures .0), c .call-of .ensures .1)
+returns-2 c = (
+  rw (
+    ne-eqb (c .before .before .before .before .before .args .d .want) 0 (c .before .before .before .if1 .left),
+    sym (c .before .before .is-complete .ensures) ∙ c .before .if2 .taken,
+    c .call-of .ensures .0,
+  ),
+  c .call-of .ensures .1,
+)
 
 returns-3 : tie.Need-returns-3
-returns-3 c = (rw (ne-eqb (c .before .before .before .before .before .args .d .want) 0 (c .before .before .before .if1 .left), sym (c .before .before .is-complete .ensures) ∙ c .before .if2 .left), tt)
+returns-3 c = (
+  rw (
+    ne-eqb (c .before .before .before .before .before .args .d .want) 0 (c .before .before .before .if1 .left),
+    sym (c .before .before .is-complete .ensures) ∙ c .before .if2 .left,
+  ),
+  tt,
+)
 
 pub finish-spec : {M : Type 1} → statement M
 finish-spec =

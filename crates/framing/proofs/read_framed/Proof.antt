@@ -1,8 +1,9 @@
 -- `framing::read_framed` meets its contract: each way out knows which test of the line failed, the last that all but the sum were passed.
 -- Assumes nothing.
-use Prim.Native.Nat.{_/_}
+use Prim.Native.Nat.{ℕ, _/_}
 use mathlib.Core.Path.{_≡_, sym, ap, _∙_}
 use mathlib.Core.Bool as Bool
+use mathlib.Core.List.{List}
 use lib.ListN.{length, take}
 use borrow.Author.Tests.{not-true, not-false}
 use Rattle.hex.specs.Hex.{bytesOf}
@@ -28,11 +29,19 @@ returns-2 c = (sym (no-hex _ (sym (c .before .before .before .decode .ensures .0
 slice-reshare-prefix-is-checked : tie.Need-slice-reshare-prefix-is-checked
 slice-reshare-prefix-is-checked c = search needs
 
+-- Where all were digits, where their count was even, and the characters.
+abbrev decoded : tie.Else2 → tie.After-decode
+decoded c = c .before .before .before
+
+abbrev even-many : tie.Else2 → tie.Else1
+even-many c = decoded c .before .before
+
+abbrev characters : tie.Else2 → List ℕ
+characters c = even-many c .before .before .before .args .digits .now
+
 -- The bytes that were written.
-read : (c : tie.Else2) →
-    let digits = c .before .before .before .before .before .before .before .before .args .digits .now in
-    take (length digits / 2) (c .before .before .before .decode .last .1 .0) ≡ bytesOf digits
-read c = c .before .before .before .decode .ensures .1 (not-false _ (c .if2 .left))
+read : (c : tie.Else2) → take (length (characters c) / 2) (decoded c .decode .last .1 .0) ≡ bytesOf (characters c)
+read c = decoded c .decode .ensures .1 (not-false _ (c .if2 .left))
 
 slice-aggregate-is-checked : tie.Need-slice-aggregate-is-checked
 slice-aggregate-is-checked c = sym (ap length (read (c .before)) ∙ bytes-length _)
@@ -46,11 +55,11 @@ same-length-2 c = search needs
 returns-3 : tie.Need-returns-3
 returns-3 c =
     let all-hex = c .before .before in
-    let even = all-hex .before .before .before .before .before .if1 .left in
-    let digits = all-hex .before .before .before .before .before .before .before .before .args .digits .now in (
+    let even = even-many all-hex .if1 .left in
+    let digits = characters all-hex in (
       c .is-checked .ensures
           ∙ ap isChecked (read all-hex)
-          ∙ sym (hex digits (sym (all-hex .before .before .before .decode .ensures .0) ∙ not-false _ (all-hex .if2 .left)) even),
+          ∙ sym (hex digits (sym (decoded all-hex .decode .ensures .0) ∙ not-false _ (all-hex .if2 .left)) even),
       λ _. read all-hex,
     )
 

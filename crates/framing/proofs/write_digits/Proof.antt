@@ -69,8 +69,9 @@ loop-less c = omega arith
 
 loop-again : tie.Need-loop-again Inv-loop μ-loop
 loop-again c =
-    let l = c .before .before .before .before .loop in
-    let a = c .before .before .before .before .before .before .before .args in
+    let turn = c .before .before .before .before in
+    let l = turn .loop in
+    let a = turn .before .before .before .args in
     let byte = getD (a .bytes .now) (l .i) 0 in
     storing-turn digits 2 (a .target .now) 0 (a .bytes .now) (length (a .bytes .now)) 0 refl (c .before .before .before .loop-test .taken) (l .inv)
     (pair-stored (l .target) (l .i) byte (c .before .high-digit .result) (c .low-digit .result) (c .before .high-digit .ensures) (c .low-digit .ensures))

@@ -36,7 +36,11 @@ returns-3 c =
     let test2 = test3 .before .before in
     let test1 = test2 .before .before in
     let start = test1 .before .before in
-    rw (ne-eqb (start .args .w .code) 6063810932 (test1 .if1 .left), ne-eqb (start .args .w .code) 23553396 (test2 .if2 .left), eq-eqb (start .args .w .code) 24147316 (test3 .if3 .taken)) (done .started3 .ensures)
+    rw (
+      ne-eqb (start .args .w .code) 6063810932 (test1 .if1 .left),
+      ne-eqb (start .args .w .code) 23553396 (test2 .if2 .left),
+      eq-eqb (start .args .w .code) 24147316 (test3 .if3 .taken),
+    ) (done .started3 .ensures)
 
 started-requires-4 : tie.Need-started-requires-4
 started-requires-4 c κs = search needs
@@ -49,7 +53,12 @@ returns-4 c =
     let test2 = test3 .before .before in
     let test1 = test2 .before .before in
     let start = test1 .before .before in
-    rw (ne-eqb (start .args .w .code) 6063810932 (test1 .if1 .left), ne-eqb (start .args .w .code) 23553396 (test2 .if2 .left), ne-eqb (start .args .w .code) 24147316 (test3 .if3 .left), eq-eqb (start .args .w .code) 24081780 (test4 .if4 .taken)) (done .started4 .ensures)
+    rw (
+      ne-eqb (start .args .w .code) 6063810932 (test1 .if1 .left),
+      ne-eqb (start .args .w .code) 23553396 (test2 .if2 .left),
+      ne-eqb (start .args .w .code) 24147316 (test3 .if3 .left),
+      eq-eqb (start .args .w .code) 24081780 (test4 .if4 .taken),
+    ) (done .started4 .ensures)
 
 started-requires-5 : tie.Need-started-requires-5
 started-requires-5 c κs = search needs
@@ -63,7 +72,13 @@ returns-5 c =
     let test2 = test3 .before .before in
     let test1 = test2 .before .before in
     let start = test1 .before .before in
-    rw (ne-eqb (start .args .w .code) 6063810932 (test1 .if1 .left), ne-eqb (start .args .w .code) 23553396 (test2 .if2 .left), ne-eqb (start .args .w .code) 24147316 (test3 .if3 .left), ne-eqb (start .args .w .code) 24081780 (test4 .if4 .left), eq-eqb (start .args .w .code) 1565137269875 (test5 .if5 .taken)) (done .started5 .ensures)
+    rw (
+      ne-eqb (start .args .w .code) 6063810932 (test1 .if1 .left),
+      ne-eqb (start .args .w .code) 23553396 (test2 .if2 .left),
+      ne-eqb (start .args .w .code) 24147316 (test3 .if3 .left),
+      ne-eqb (start .args .w .code) 24081780 (test4 .if4 .left),
+      eq-eqb (start .args .w .code) 1565137269875 (test5 .if5 .taken),
+    ) (done .started5 .ensures)
 
 started-requires-6 : tie.Need-started-requires-6
 started-requires-6 c κs = search needs
@@ -78,7 +93,14 @@ returns-6 c =
     let test2 = test3 .before .before in
     let test1 = test2 .before .before in
     let start = test1 .before .before in
-    rw (ne-eqb (start .args .w .code) 6063810932 (test1 .if1 .left), ne-eqb (start .args .w .code) 23553396 (test2 .if2 .left), ne-eqb (start .args .w .code) 24147316 (test3 .if3 .left), ne-eqb (start .args .w .code) 24081780 (test4 .if4 .left), ne-eqb (start .args .w .code) 1565137269875 (test5 .if5 .left), eq-eqb (start .args .w .code) 391861850699365 (test6 .if6 .taken)) (done .started6 .ensures)
+    rw (
+      ne-eqb (start .args .w .code) 6063810932 (test1 .if1 .left),
+      ne-eqb (start .args .w .code) 23553396 (test2 .if2 .left),
+      ne-eqb (start .args .w .code) 24147316 (test3 .if3 .left),
+      ne-eqb (start .args .w .code) 24081780 (test4 .if4 .left),
+      ne-eqb (start .args .w .code) 1565137269875 (test5 .if5 .left),
+      eq-eqb (start .args .w .code) 391861850699365 (test6 .if6 .taken),
+    ) (done .started6 .ensures)
 
 failed-requires : tie.Need-failed-requires
 failed-requires c κs = search needs
@@ -93,7 +115,14 @@ returns-7 c =
     let test2 = test3 .before .before in
     let test1 = test2 .before .before in
     let start = test1 .before .before in
-    rw (ne-eqb (start .args .w .code) 6063810932 (test1 .if1 .left), ne-eqb (start .args .w .code) 23553396 (test2 .if2 .left), ne-eqb (start .args .w .code) 24147316 (test3 .if3 .left), ne-eqb (start .args .w .code) 24081780 (test4 .if4 .left), ne-eqb (start .args .w .code) 1565137269875 (test5 .if5 .left), ne-eqb (start .args .w .code) 391861850699365 (test6 .if6 .left)) (done .failed .ensures)
+    rw (
+      ne-eqb (start .args .w .code) 6063810932 (test1 .if1 .left),
+      ne-eqb (start .args .w .code) 23553396 (test2 .if2 .left),
+      ne-eqb (start .args .w .code) 24147316 (test3 .if3 .left),
+      ne-eqb (start .args .w .code) 24081780 (test4 .if4 .left),
+      ne-eqb (start .args .w .code) 1565137269875 (test5 .if5 .left),
+      ne-eqb (start .args .w .code) 391861850699365 (test6 .if6 .left),
+    ) (done .failed .ensures)
 
 pub command-word-spec : {M : Type 1} → statement M
 command-word-spec =

@@ -24,7 +24,10 @@ returns-2 c =
     let test2 = done .before in
     let test1 = test2 .before .before in
     let start = test1 .before .before in
-    rw (ne-eqb (start .args .w .code) 1565003441522 (test1 .if1 .left), eq-eqb (start .args .w .code) 1552336319073 (test2 .if2 .taken)) (done .marked2 .ensures)
+    rw (
+      ne-eqb (start .args .w .code) 1565003441522 (test1 .if1 .left),
+      eq-eqb (start .args .w .code) 1552336319073 (test2 .if2 .taken),
+    ) (done .marked2 .ensures)
 
 marked-requires-3 : tie.Need-marked-requires-3
 marked-requires-3 c κs = search needs
@@ -36,7 +39,11 @@ returns-3 c =
     let test2 = test3 .before .before in
     let test1 = test2 .before .before in
     let start = test1 .before .before in
-    rw (ne-eqb (start .args .w .code) 1565003441522 (test1 .if1 .left), ne-eqb (start .args .w .code) 1552336319073 (test2 .if2 .left), eq-eqb (start .args .w .code) 1565136873844 (test3 .if3 .taken)) (done .marked3 .ensures)
+    rw (
+      ne-eqb (start .args .w .code) 1565003441522 (test1 .if1 .left),
+      ne-eqb (start .args .w .code) 1552336319073 (test2 .if2 .left),
+      eq-eqb (start .args .w .code) 1565136873844 (test3 .if3 .taken),
+    ) (done .marked3 .ensures)
 
 failed-requires : tie.Need-failed-requires
 failed-requires c κs = search needs
@@ -48,7 +55,11 @@ returns-4 c =
     let test2 = test3 .before .before in
     let test1 = test2 .before .before in
     let start = test1 .before .before in
-    rw (ne-eqb (start .args .w .code) 1565003441522 (test1 .if1 .left), ne-eqb (start .args .w .code) 1552336319073 (test2 .if2 .left), ne-eqb (start .args .w .code) 1565136873844 (test3 .if3 .left)) (done .failed .ensures)
+    rw (
+      ne-eqb (start .args .w .code) 1565003441522 (test1 .if1 .left),
+      ne-eqb (start .args .w .code) 1552336319073 (test2 .if2 .left),
+      ne-eqb (start .args .w .code) 1565136873844 (test3 .if3 .left),
+    ) (done .failed .ensures)
 
 pub list-part-spec : {M : Type 1} → statement M
 list-part-spec =

@@ -36,7 +36,11 @@ returns-3 c =
     let test2 = test3 .before .before in
     let test1 = test2 .before .before in
     let start = test1 .before .before in
-    rw (ne-eqb (start .args .w .code) 1565003441522 (test1 .if1 .left), ne-eqb (start .args .w .code) 23552368 (test2 .if2 .left), eq-eqb (start .args .w .code) 23684210 (test3 .if3 .taken)) (done .marked3 .ensures)
+    rw (
+      ne-eqb (start .args .w .code) 1565003441522 (test1 .if1 .left),
+      ne-eqb (start .args .w .code) 23552368 (test2 .if2 .left),
+      eq-eqb (start .args .w .code) 23684210 (test3 .if3 .taken),
+    ) (done .marked3 .ensures)
 
 marked-requires-4 : tie.Need-marked-requires-4
 marked-requires-4 c κs = search needs
@@ -49,7 +53,12 @@ returns-4 c =
     let test2 = test3 .before .before in
     let test1 = test2 .before .before in
     let start = test1 .before .before in
-    rw (ne-eqb (start .args .w .code) 1565003441522 (test1 .if1 .left), ne-eqb (start .args .w .code) 23552368 (test2 .if2 .left), ne-eqb (start .args .w .code) 23684210 (test3 .if3 .left), eq-eqb (start .args .w .code) 24081780 (test4 .if4 .taken)) (done .marked4 .ensures)
+    rw (
+      ne-eqb (start .args .w .code) 1565003441522 (test1 .if1 .left),
+      ne-eqb (start .args .w .code) 23552368 (test2 .if2 .left),
+      ne-eqb (start .args .w .code) 23684210 (test3 .if3 .left),
+      eq-eqb (start .args .w .code) 24081780 (test4 .if4 .taken),
+    ) (done .marked4 .ensures)
 
 marked-requires-5 : tie.Need-marked-requires-5
 marked-requires-5 c κs = search needs
@@ -63,7 +72,13 @@ returns-5 c =
     let test2 = test3 .before .before in
     let test1 = test2 .before .before in
     let start = test1 .before .before in
-    rw (ne-eqb (start .args .w .code) 1565003441522 (test1 .if1 .left), ne-eqb (start .args .w .code) 23552368 (test2 .if2 .left), ne-eqb (start .args .w .code) 23684210 (test3 .if3 .left), ne-eqb (start .args .w .code) 24081780 (test4 .if4 .left), eq-eqb (start .args .w .code) 24274278 (test5 .if5 .taken)) (done .marked5 .ensures)
+    rw (
+      ne-eqb (start .args .w .code) 1565003441522 (test1 .if1 .left),
+      ne-eqb (start .args .w .code) 23552368 (test2 .if2 .left),
+      ne-eqb (start .args .w .code) 23684210 (test3 .if3 .left),
+      ne-eqb (start .args .w .code) 24081780 (test4 .if4 .left),
+      eq-eqb (start .args .w .code) 24274278 (test5 .if5 .taken),
+    ) (done .marked5 .ensures)
 
 marked-requires-6 : tie.Need-marked-requires-6
 marked-requires-6 c κs = search needs
@@ -78,7 +93,14 @@ returns-6 c =
     let test2 = test3 .before .before in
     let test1 = test2 .before .before in
     let start = test1 .before .before in
-    rw (ne-eqb (start .args .w .code) 1565003441522 (test1 .if1 .left), ne-eqb (start .args .w .code) 23552368 (test2 .if2 .left), ne-eqb (start .args .w .code) 23684210 (test3 .if3 .left), ne-eqb (start .args .w .code) 24081780 (test4 .if4 .left), ne-eqb (start .args .w .code) 24274278 (test5 .if5 .left), eq-eqb (start .args .w .code) 6147763813 (test6 .if6 .taken)) (done .marked6 .ensures)
+    rw (
+      ne-eqb (start .args .w .code) 1565003441522 (test1 .if1 .left),
+      ne-eqb (start .args .w .code) 23552368 (test2 .if2 .left),
+      ne-eqb (start .args .w .code) 23684210 (test3 .if3 .left),
+      ne-eqb (start .args .w .code) 24081780 (test4 .if4 .left),
+      ne-eqb (start .args .w .code) 24274278 (test5 .if5 .left),
+      eq-eqb (start .args .w .code) 6147763813 (test6 .if6 .taken),
+    ) (done .marked6 .ensures)
 
 failed-requires : tie.Need-failed-requires
 failed-requires c κs = search needs
@@ -93,7 +115,14 @@ returns-7 c =
     let test2 = test3 .before .before in
     let test1 = test2 .before .before in
     let start = test1 .before .before in
-    rw (ne-eqb (start .args .w .code) 1565003441522 (test1 .if1 .left), ne-eqb (start .args .w .code) 23552368 (test2 .if2 .left), ne-eqb (start .args .w .code) 23684210 (test3 .if3 .left), ne-eqb (start .args .w .code) 24081780 (test4 .if4 .left), ne-eqb (start .args .w .code) 24274278 (test5 .if5 .left), ne-eqb (start .args .w .code) 6147763813 (test6 .if6 .left)) (done .failed .ensures)
+    rw (
+      ne-eqb (start .args .w .code) 1565003441522 (test1 .if1 .left),
+      ne-eqb (start .args .w .code) 23552368 (test2 .if2 .left),
+      ne-eqb (start .args .w .code) 23684210 (test3 .if3 .left),
+      ne-eqb (start .args .w .code) 24081780 (test4 .if4 .left),
+      ne-eqb (start .args .w .code) 24274278 (test5 .if5 .left),
+      ne-eqb (start .args .w .code) 6147763813 (test6 .if6 .left),
+    ) (done .failed .ensures)
 
 pub put-part-spec : {M : Type 1} → statement M
 put-part-spec =

@@ -53,7 +53,11 @@ returns-3 c =
     let test1 = test2 .before .before in
     let asked = test1 .before in
     let start = asked .before in
-    rw (sym (asked .is-number .ensures) ∙ test1 .if1 .left, ne-eqb (start .args .w .code) 329 (test2 .if2 .left), eq-eqb (start .args .w .code) 336 (test3 .if3 .taken)) (done .with-lead3 .ensures)
+    rw (
+      sym (asked .is-number .ensures) ∙ test1 .if1 .left,
+      ne-eqb (start .args .w .code) 329 (test2 .if2 .left),
+      eq-eqb (start .args .w .code) 336 (test3 .if3 .taken),
+    ) (done .with-lead3 .ensures)
 
 with-lead-requires-4 : tie.Need-with-lead-requires-4
 with-lead-requires-4 c κs = search needs
@@ -67,7 +71,12 @@ returns-4 c =
     let test1 = test2 .before .before in
     let asked = test1 .before in
     let start = asked .before in
-    rw (sym (asked .is-number .ensures) ∙ test1 .if1 .left, ne-eqb (start .args .w .code) 329 (test2 .if2 .left), ne-eqb (start .args .w .code) 336 (test3 .if3 .left), eq-eqb (start .args .w .code) 322 (test4 .if4 .taken)) (done .with-lead4 .ensures)
+    rw (
+      sym (asked .is-number .ensures) ∙ test1 .if1 .left,
+      ne-eqb (start .args .w .code) 329 (test2 .if2 .left),
+      ne-eqb (start .args .w .code) 336 (test3 .if3 .left),
+      eq-eqb (start .args .w .code) 322 (test4 .if4 .taken),
+    ) (done .with-lead4 .ensures)
 
 failed-requires : tie.Need-failed-requires
 failed-requires c κs = search needs
@@ -81,7 +90,12 @@ returns-5 c =
     let test1 = test2 .before .before in
     let asked = test1 .before in
     let start = asked .before in
-    rw (sym (asked .is-number .ensures) ∙ test1 .if1 .left, ne-eqb (start .args .w .code) 329 (test2 .if2 .left), ne-eqb (start .args .w .code) 336 (test3 .if3 .left), ne-eqb (start .args .w .code) 322 (test4 .if4 .left)) (done .failed .ensures)
+    rw (
+      sym (asked .is-number .ensures) ∙ test1 .if1 .left,
+      ne-eqb (start .args .w .code) 329 (test2 .if2 .left),
+      ne-eqb (start .args .w .code) 336 (test3 .if3 .left),
+      ne-eqb (start .args .w .code) 322 (test4 .if4 .left),
+    ) (done .failed .ensures)
 
 pub slice-word-spec : {M : Type 1} → statement M
 slice-word-spec =

@@ -29,14 +29,19 @@ read-framed-requires c κs = search needs
 returns-2 : tie.Need-returns-2
 returns-2 c = sym (not-framed _ (sym (c .before .before .read-framed .ensures .0) ∙ not-true _ (c .if2 .taken)))
 
-is-framed : (c : tie.Else2) → isFramed (c .before .before .before .before .before .before .args .digits .now) ≡ true
-is-framed c = sym (c .before .before .read-framed .ensures .0) ∙ not-false _ (c .if2 .left)
+-- Where a line was read as framed, and its characters.
+abbrev read : tie.Else2 → tie.After-read-framed
+read c = c .before .before
+
+abbrev characters : tie.Else2 → List ℕ
+characters c = read c .before .before .before .before .args .digits .now
+
+is-framed : (c : tie.Else2) → isFramed (characters c) ≡ true
+is-framed c = sym (read c .read-framed .ensures .0) ∙ not-false _ (c .if2 .left)
 
 -- The body of the bytes that were written.
-body : (c : tie.Else2) →
-    let digits = c .before .before .before .before .before .before .args .digits .now in
-    take (length digits / 2 - 1) (c .before .before .read-framed .last .1 .0) ≡ bodyOf (bytesOf digits)
-body c = body-at-front _ _ (c .before .before .read-framed .ensures .1 (not-false _ (c .if2 .left)))
+body : (c : tie.Else2) → take (length (characters c) / 2 - 1) (read c .read-framed .last .1 .0) ≡ bodyOf (bytesOf (characters c))
+body c = body-at-front _ _ (read c .read-framed .ensures .1 (not-false _ (c .if2 .left)))
 
 sub-n : tie.Need-sub-n
 sub-n c = some-byte _ (is-framed c)

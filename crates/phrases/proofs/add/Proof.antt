@@ -25,8 +25,9 @@ same-length c = search needs
 -- src/lib.rt:11:1
 returns : tie.Need-returns
 returns c =
-    let a = c .before .before .before .before .before .before .args in
-    record { holds = c .before .before .paste .ensures ∙ pasted (a .out .now) (a .text .now) (a .at) (omega arith); behind = refl }
+    let put = c .before .before in
+    let a = put .before .before .before .before .args in
+    record { holds = put .paste .ensures ∙ pasted (a .out .now) (a .text .now) (a .at) (omega arith); behind = refl }
 
 pub add-spec : {M : Type 1} → statement M
 add-spec = tie.close (tie.spec paste-requires add-result same-length returns)

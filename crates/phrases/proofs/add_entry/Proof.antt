@@ -43,9 +43,10 @@ same-length c = search needs
 -- src/lib.rt:31:1
 returns : tie.Need-returns
 returns c =
-    let a = c .before .before .before .before .before .before .before .args in
+    let put = c .before .before in
+    let a = put .before .before .before .before .before .args in
     let size : a .width * a .place + a .len - a .width * a .place ≡ a .len = omega arith in
-    let added = rw size at (c .before .before .add .ensures) in
+    let added = rw size at (put .add .ensures) in
     (added, let b = added .behind in let l = take-short (a .len) (drop (a .width * a .place) (a .table .now)) in omega arith)
 
 pub add-entry-spec : {M : Type 1} → statement M

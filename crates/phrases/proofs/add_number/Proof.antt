@@ -26,10 +26,11 @@ slice-aggregate-add c = search needs
 -- src/lib.rt:27:5
 add-requires : tie.Need-add-requires
 add-requires c κs =
-    let d = c .before .before .decimal in
-    let n = c .before .before .before .before .before .args .n in
+    let made = c .before .before in
+    let start = made .before .before .before in
+    let d = made .decimal in
     let k = d .ensures .0 in
-    let most = fewest-most (d .result) n (d .ensures .1 .0) (let f = c .before .before .before .before .before .fits in omega arith) in
+    let most = fewest-most (d .result) (start .args .n) (d .ensures .1 .0) (let f = start .fits in omega arith) in
     omega arith
 
 -- src/lib.rt:21:1
@@ -39,10 +40,14 @@ same-length c = search needs
 -- src/lib.rt:21:1
 returns : tie.Need-returns
 returns c =
-    let d = c .before .before .before .before .before .decimal in
-    let n = c .before .before .before .before .before .before .before .before .args .n in
-    let text = d .ensures .1 .1 ∙ fewest-decimal (d .result) 20 n (fewest-most (d .result) n (d .ensures .1 .0) (let f = c .before .before .before .before .before .before .before .before .fits in omega arith)) (d .ensures .1 .0) in
-    let added = rw text at (c .before .before .add .ensures) in
+    let put = c .before .before in
+    let made = put .before .before .before in
+    let start = made .before .before .before in
+    let d = made .decimal in
+    let n = start .args .n in
+    let most = fewest-most (d .result) n (d .ensures .1 .0) (let f = start .fits in omega arith) in
+    let text = d .ensures .1 .1 ∙ fewest-decimal (d .result) 20 n most (d .ensures .1 .0) in
+    let added = rw text at (put .add .ensures) in
     (added, let l = decimal-fits 20 n in let b = added .behind in omega arith)
 
 pub add-number-spec : {M : Type 1} → statement M

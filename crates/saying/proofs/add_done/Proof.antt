@@ -46,7 +46,11 @@ returns-3 c =
     let test2 = test3 .before .before in
     let test1 = test2 .before .before in
     let start = test1 .before .before .before in
-    rw (eq-eqb (start .args .reply .buf) 255 (test1 .if1 .left), ne-eqb (start .args .reply .call) 5 (test2 .if2 .left), eq-eqb (start .args .reply .call) 6 (test3 .if3 .taken)) (done .add-signed .ensures)
+    rw (
+      eq-eqb (start .args .reply .buf) 255 (test1 .if1 .left),
+      ne-eqb (start .args .reply .call) 5 (test2 .if2 .left),
+      eq-eqb (start .args .reply .call) 6 (test3 .if3 .taken),
+    ) (done .add-signed .ensures)
 
 slice-aggregate-add : tie.Need-slice-aggregate-add
 slice-aggregate-add c = search needs
@@ -63,8 +67,14 @@ returns-4 c =
     let test3 = done .before .before .before in
     let test2 = test3 .before .before in
     let test1 = test2 .before .before in
-    let start = test1 .before .before .before in
-    (rw (eq-eqb (start .args .reply .buf) 255 (test1 .if1 .left), ne-eqb (start .args .reply .call) 5 (test2 .if2 .left), ne-eqb (start .args .reply .call) 6 (test3 .if3 .left)) (done .add .ensures), let b = done .add .ensures .behind in omega arith)
+    let start = test1 .before .before .before in (
+      rw (
+        eq-eqb (start .args .reply .buf) 255 (test1 .if1 .left),
+        ne-eqb (start .args .reply .call) 5 (test2 .if2 .left),
+        ne-eqb (start .args .reply .call) 6 (test3 .if3 .left),
+      ) (done .add .ensures),
+      let b = done .add .ensures .behind in omega arith,
+    )
 
 pub add-done-spec : {M : Type 1} → statement M
 add-done-spec =

@@ -33,8 +33,10 @@ returns-2 c =
     let done = c .before .before in
     let test2 = done .before .before .before in
     let test1 = test2 .before .before in
-    let start = test1 .before .before .before in
-    (rw (ne-eqb (start .args .reply .status) 0 (test1 .if1 .left), eq-eqb (start .args .reply .status) 64 (test2 .if2 .taken)) (done .add .ensures), let b = done .add .ensures .behind in omega arith)
+    let start = test1 .before .before .before in (
+      rw (ne-eqb (start .args .reply .status) 0 (test1 .if1 .left), eq-eqb (start .args .reply .status) 64 (test2 .if2 .taken)) (done .add .ensures),
+      let b = done .add .ensures .behind in omega arith,
+    )
 
 slice-aggregate-add-2 : tie.Need-slice-aggregate-add-2
 slice-aggregate-add-2 c = search needs
@@ -51,8 +53,14 @@ returns-3 c =
     let test3 = done .before .before .before in
     let test2 = test3 .before .before in
     let test1 = test2 .before .before in
-    let start = test1 .before .before .before in
-    (rw (ne-eqb (start .args .reply .status) 0 (test1 .if1 .left), ne-eqb (start .args .reply .status) 64 (test2 .if2 .left), eq-eqb (start .args .reply .status) 65 (test3 .if3 .taken)) (done .add2 .ensures), let b = done .add2 .ensures .behind in omega arith)
+    let start = test1 .before .before .before in (
+      rw (
+        ne-eqb (start .args .reply .status) 0 (test1 .if1 .left),
+        ne-eqb (start .args .reply .status) 64 (test2 .if2 .left),
+        eq-eqb (start .args .reply .status) 65 (test3 .if3 .taken),
+      ) (done .add2 .ensures),
+      let b = done .add2 .ensures .behind in omega arith,
+    )
 
 add-turned-down-requires : tie.Need-add-turned-down-requires
 add-turned-down-requires c κs = search needs
@@ -67,7 +75,11 @@ returns-4 c =
     let test2 = test3 .before .before in
     let test1 = test2 .before .before in
     let start = test1 .before .before .before in
-    rw (ne-eqb (start .args .reply .status) 0 (test1 .if1 .left), ne-eqb (start .args .reply .status) 64 (test2 .if2 .left), ne-eqb (start .args .reply .status) 65 (test3 .if3 .left)) (done .add-turned-down .ensures)
+    rw (
+      ne-eqb (start .args .reply .status) 0 (test1 .if1 .left),
+      ne-eqb (start .args .reply .status) 64 (test2 .if2 .left),
+      ne-eqb (start .args .reply .status) 65 (test3 .if3 .left),
+    ) (done .add-turned-down .ensures)
 
 pub add-status-spec : {M : Type 1} → statement M
 add-status-spec =

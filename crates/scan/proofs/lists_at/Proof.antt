@@ -15,7 +15,9 @@ sub-if1 c = search needs
 
 -- What the test says of the line.
 tested : (c : tie.After-check-at) →
-    let s = c .before .before .before .before .before .before .before .before in
+    let summed = c .before .before .before in
+    let read = summed .before .before in
+    let s = read .before .before .before in
     c .check-at .result ≡ isLineAt (s .args .buffer .now) (s .args .at) 13
 tested c =
     let summed = c .before .before .before in
@@ -65,7 +67,9 @@ returns-2 c =
 
 returns-3 : tie.Need-returns-3
 returns-3 c =
-    let s = c .before .before .before .before .before .before .before .before .before in
+    let summed = c .before .before .before .before in
+    let read = summed .before .before in
+    let s = read .before .before .before in
     sym (lists-at (s .args .buffer .now) (s .args .at) (s .pre .1) ∙ rw (sym (tested (c .before)) ∙ c .if2 .left))
 
 pub lists-at-spec : {M : Type 1} → statement M

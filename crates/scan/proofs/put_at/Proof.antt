@@ -46,13 +46,15 @@ add-t12 c = search needs
 
 returns-2 : tie.Need-returns-2
 returns-2 c =
-    let s = c .before .before .before .before .before .before in
-    let f = c .before .before .before .fields-at .ensures in
+    let read = c .before .before .before in
+    let s = read .before .before .before in
+    let f = read .fields-at .ensures in
     sym (put-at (s .args .buffer .now) (s .args .at) (s .pre .1) ∙ rw (sym (tested (c .before)) ∙ c .if2 .taken, ← f .lead, ← f .poc, ← f .layer, ← f .span))
 
 returns-3 : tie.Need-returns-3
 returns-3 c =
-    let s = c .before .before .before .before .before .before in
+    let read = c .before .before .before in
+    let s = read .before .before .before in
     sym (put-at (s .args .buffer .now) (s .args .at) (s .pre .1) ∙ rw (sym (tested (c .before)) ∙ c .if2 .left))
 
 pub put-at-spec : {M : Type 1} → statement M

@@ -24,46 +24,42 @@ none (suc (suc (suc (suc (suc zero))))) p q e n1 n2 n3 n4 n5 n6 = n5 e
 none (suc (suc (suc (suc (suc (suc zero)))))) p q e n1 n2 n3 n4 n5 n6 = n6 e
 none (suc (suc (suc (suc (suc (suc (suc k))))))) p q e n1 n2 n3 n4 n5 n6 = omega arith
 
-open1 : (c : tie.At-match-keys1) →
-    let s = c .before .before .before .before .before .before in
-    (s .args .tables .now ≡ digitTables) × Opened (s .args .buffer .now) (s .args .at) 1 × (s .args .at ≤ length (s .args .buffer .now))
+-- The start, from where the second character is read; and what the functions of a kind require of it.
+abbrev start : tie.After-shared-slice-known3 → tie.Start
+start c = c .before .before .before .before .before
+
+abbrev Ready : ℕ → tie.Start → Type 0
+Ready call s =
+    (s .args .tables .now ≡ digitTables) × Opened (s .args .buffer .now) (s .args .at) call × (s .args .at ≤ length (s .args .buffer .now))
+
+open1 : (c : tie.At-match-keys1) → Ready 1 (start (c .before))
 open1 c =
-    let s = c .before .before .before .before .before .before in
+    let s = start (c .before) in
     (s .pre .0, opened (s .args .buffer .now) (s .args .at) 49 1 refl refl (c .before .before .if2 .left) (c .match .keys1), s .pre .1)
 
-open2 : (c : tie.At-match-keys2) →
-    let s = c .before .before .before .before .before .before in
-    (s .args .tables .now ≡ digitTables) × Opened (s .args .buffer .now) (s .args .at) 2 × (s .args .at ≤ length (s .args .buffer .now))
+open2 : (c : tie.At-match-keys2) → Ready 2 (start (c .before))
 open2 c =
-    let s = c .before .before .before .before .before .before in
+    let s = start (c .before) in
     (s .pre .0, opened (s .args .buffer .now) (s .args .at) 50 2 refl refl (c .before .before .if2 .left) (c .match .keys2), s .pre .1)
 
-open3 : (c : tie.At-match-keys3) →
-    let s = c .before .before .before .before .before .before in
-    (s .args .tables .now ≡ digitTables) × Opened (s .args .buffer .now) (s .args .at) 3 × (s .args .at ≤ length (s .args .buffer .now))
+open3 : (c : tie.At-match-keys3) → Ready 3 (start (c .before))
 open3 c =
-    let s = c .before .before .before .before .before .before in
+    let s = start (c .before) in
     (s .pre .0, opened (s .args .buffer .now) (s .args .at) 51 3 refl refl (c .before .before .if2 .left) (c .match .keys3), s .pre .1)
 
-open4 : (c : tie.At-match-keys4) →
-    let s = c .before .before .before .before .before .before in
-    (s .args .tables .now ≡ digitTables) × Opened (s .args .buffer .now) (s .args .at) 4 × (s .args .at ≤ length (s .args .buffer .now))
+open4 : (c : tie.At-match-keys4) → Ready 4 (start (c .before))
 open4 c =
-    let s = c .before .before .before .before .before .before in
+    let s = start (c .before) in
     (s .pre .0, opened (s .args .buffer .now) (s .args .at) 52 4 refl refl (c .before .before .if2 .left) (c .match .keys4), s .pre .1)
 
-open5 : (c : tie.At-match-keys5) →
-    let s = c .before .before .before .before .before .before in
-    (s .args .tables .now ≡ digitTables) × Opened (s .args .buffer .now) (s .args .at) 5 × (s .args .at ≤ length (s .args .buffer .now))
+open5 : (c : tie.At-match-keys5) → Ready 5 (start (c .before))
 open5 c =
-    let s = c .before .before .before .before .before .before in
+    let s = start (c .before) in
     (s .pre .0, opened (s .args .buffer .now) (s .args .at) 53 5 refl refl (c .before .before .if2 .left) (c .match .keys5), s .pre .1)
 
-open6 : (c : tie.At-match-keys6) →
-    let s = c .before .before .before .before .before .before in
-    (s .args .tables .now ≡ digitTables) × Opened (s .args .buffer .now) (s .args .at) 6 × (s .args .at ≤ length (s .args .buffer .now))
+open6 : (c : tie.At-match-keys6) → Ready 6 (start (c .before))
 open6 c =
-    let s = c .before .before .before .before .before .before in
+    let s = start (c .before) in
     (s .pre .0, opened (s .args .buffer .now) (s .args .at) 54 6 refl refl (c .before .before .if2 .left) (c .match .keys6), s .pre .1)
 
 returns : tie.Need-returns
@@ -123,7 +119,7 @@ returns-8 c = c .derive-at .ensures
 
 returns-9 : tie.Need-returns-9
 returns-9 c =
-    let s = c .before .before .before .before .before .before in
+    let s = start (c .before) in
     let r = c .match .rest in
     sym (no-open (s .args .buffer .now) (s .args .at) (λ k p q l e f. none k p q f (r .0 .0 .0 .0 .0 .1) (r .0 .0 .0 .0 .1) (r .0 .0 .0 .1) (r .0 .0 .1) (r .0 .1) (r .1)))
 

@@ -15,10 +15,20 @@ add-result : tie.Need-add-result
 add-result c = search needs
 
 returns : tie.Need-returns
-returns c = rw (lt-ltb (c .before .before .before .args .value) 4294967296 (c .before .before .if1 .taken), le-leb 48 (c .before .before .before .args .c) (c .before .if2 .taken), le-leb (c .before .before .before .args .c) 57 (c .if3 .taken))
+returns c =
+    rw (
+      lt-ltb (c .before .before .before .args .value) 4294967296 (c .before .before .if1 .taken),
+      le-leb 48 (c .before .before .before .args .c) (c .before .if2 .taken),
+      le-leb (c .before .before .before .args .c) 57 (c .if3 .taken),
+    )
 
 returns-2 : tie.Need-returns-2
-returns-2 c = rw (lt-ltb (c .before .before .before .args .value) 4294967296 (c .before .before .if1 .taken), le-leb 48 (c .before .before .before .args .c) (c .before .if2 .taken), lt-leb (c .before .before .before .args .c) 57 (c .if3 .left))
+returns-2 c =
+    rw (
+      lt-ltb (c .before .before .before .args .value) 4294967296 (c .before .before .if1 .taken),
+      le-leb 48 (c .before .before .before .args .c) (c .before .if2 .taken),
+      lt-leb (c .before .before .before .args .c) 57 (c .if3 .left),
+    )
 
 returns-3 : tie.Need-returns-3
 returns-3 c = rw (lt-ltb (c .before .before .args .value) 4294967296 (c .before .if1 .taken), lt-leb 48 (c .before .before .args .c) (c .if2 .left))

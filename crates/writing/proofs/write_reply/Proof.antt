@@ -62,12 +62,26 @@ slice-write-out : tie.Need-slice-write-out
 slice-write-out c = search needs
 
 -- The check byte, as it was summed.
-summed-check : (c : tie.After-check-byte) → c .check-byte .result ≡ checkByte (replyBytes (c .before .before .before .before .before .before .before .before .before .before .before .before .before .before .before .before .before .before .before .before .before .before .args .reply))
+summed-check : (c : tie.After-check-byte) →
+    let number-summed = c .before .before .before .before in
+    let number = number-summed .before .before .before in
+    let third = number .before .before .before .before in
+    let second = third .before .before .before .before in
+    let first = second .before .before .before .before in
+    let s = first .before .before .before in
+    c .check-byte .result ≡ checkByte (replyBytes (s .args .reply))
 unfolding sum8
 summed-check c =
     let summed = c .before .before in
-    let number = c .before .before .before .before .before .before .before .write-number .ensures .1 in
-    rw (c .check-byte .ensures, summed .wrapping-add-u83 .ensures, summed .before .wrapping-add-u82 .ensures, summed .before .before .wrapping-add-u8 .ensures, number)
+    let number-summed = c .before .before .before .before in
+    let number = number-summed .before .before .before in
+    rw (
+      c .check-byte .ensures,
+      summed .wrapping-add-u83 .ensures,
+      summed .before .wrapping-add-u82 .ensures,
+      number-summed .wrapping-add-u8 .ensures,
+      number .write-number .ensures .1,
+    )
 
 same-digits : {bs after : List ℕ} {i : ℕ} (m n : ℕ) → m ≡ n → Stored bs i (digitsOf (m ∷ [])) 2 after → Stored bs i (digitsOf (n ∷ [])) 2 after
 same-digits {bs} {after} {i} m n e p = subst (λ (k : ℕ). Stored bs i (digitsOf (k ∷ [])) 2 after) e p
@@ -76,12 +90,15 @@ same-length : tie.Need-same-length
 unfolding digitsOf
 same-length c =
     let fourth = c .before .before in
-    let number = c .before .before .before .before .before .before .before .before .before .before in
+    let checked = fourth .before in
+    let number-summed = checked .before .before .before .before in
+    let number = number-summed .before .before .before in
     let third = number .before .before .before .before in
     let second = third .before .before .before .before in
     let first = second .before .before .before .before in
     let s = first .before .before .before in
-    let check = same-digits (fourth .before .check-byte .result) (checkByte (replyBytes (s .args .reply))) (summed-check (fourth .before)) (fourth .write-byte4 .ensures) in
+    let wanted = checkByte (replyBytes (s .args .reply)) in
+    let check = same-digits (checked .check-byte .result) wanted (summed-check checked) (fourth .write-byte4 .ensures) in
     let head = stored-then (stored-then (first .write-byte .ensures) (second .write-byte2 .ensures)) (third .write-byte3 .ensures) in
     let line = stored-then (stored-then (stored-then head (number .write-number .ensures .0)) check) (stored-one newline refl) in
     stored-length line
@@ -90,12 +107,15 @@ returns : tie.Need-returns
 unfolding digitsOf answerDigits answerLine
 returns c =
     let fourth = c .before .before in
-    let number = c .before .before .before .before .before .before .before .before .before .before in
+    let checked = fourth .before in
+    let number-summed = checked .before .before .before .before in
+    let number = number-summed .before .before .before in
     let third = number .before .before .before .before in
     let second = third .before .before .before .before in
     let first = second .before .before .before .before in
     let s = first .before .before .before in
-    let check = same-digits (fourth .before .check-byte .result) (checkByte (replyBytes (s .args .reply))) (summed-check (fourth .before)) (fourth .write-byte4 .ensures) in
+    let wanted = checkByte (replyBytes (s .args .reply)) in
+    let check = same-digits (checked .check-byte .result) wanted (summed-check checked) (fourth .write-byte4 .ensures) in
     let head = stored-then (stored-then (first .write-byte .ensures) (second .write-byte2 .ensures)) (third .write-byte3 .ensures) in
     let line = stored-then (stored-then (stored-then head (number .write-number .ensures .0)) check) (stored-one newline refl) in
     (line .holds ∙ sets-eq (answerLine (s .args .reply)) (s .args .out .now) (s .args .at) (s .pre .1), refl)
