@@ -31,9 +31,10 @@ isEnd InputEnded = true
 isEnd ReadFailed = false
 isEnd WriteFailed = false
 
--- At the end of the input: a last line that lacks its newline is told as if it had one.
+-- At the end of the input: a last line that lacks its newline is told as if it had one. The input has ended, unless that could not be written.
 abbrev pub lastNewline : ℕ → List ℕ
 lastNewline len = cond (eqb len 0) [] (10 ∷ [])
 
 pub record Ended (kind : Kind) (held : List ℕ) (last : Handed) (out err : List ℕ) (t : Handed) (held′ out′ err′ : List ℕ) : Type 0 where
   pub told : ToldPiece kind held (last .spoken .spot) (lastNewline (last .spoken .spot .len)) out err (t .spoken) held′ out′ err′
+  pub handed-on : Given t (record { spoken = t .spoken; heard = last .heard; went = InputEnded })

@@ -14,7 +14,7 @@ returns c =
     let spot-read = test .before .before in
     let last-read = spot-read .before .before in
     let start = last-read .before .before .before .before in
-    no-last _ _ _ (start .pre .keeps) (test .if1 .taken) (c .idle .ensures)
+    no-last _ (start .pre .keeps) (test .if1 .taken) (c .idle .ensures)
 
 slice-aggregate-tell-piece : tie.Need-slice-aggregate-tell-piece
 slice-aggregate-tell-piece c = search needs
