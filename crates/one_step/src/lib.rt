@@ -2,6 +2,7 @@
 // `walking`, `reaching` and `weighing` ask this step.
 use ordering::LAYER_UNIT;
 use ordering::POC_UNIT;
+use passes::BoundAfter;
 use passes::PassRule;
 use passes::Turn;
 ghost use mathlib.Core.Path.{_≡_};
@@ -48,13 +49,12 @@ pub fn layer_below(layer: u64) -> u64
     if layer < 1 { 0 } else { layer - 1 }
 }
 
-fn next_bound(falls: bool, fixed: u64, key: u64) -> u64
-    ensures { λ r. ⌜ r ≡ boundAfter falls fixed (keyIn key .layer) ⌝ }
+fn next_bound(after: BoundAfter, key: u64) -> u64
+    ensures { λ r. ⌜ r ≡ boundAfter after (keyIn key .layer) ⌝ }
 {
-    if falls {
-        layer_below(key / LAYER_UNIT % LAYER_UNIT)
-    } else {
-        fixed
+    match after {
+        BoundAfter::BelowTaken => layer_below(key / LAYER_UNIT % LAYER_UNIT),
+        BoundAfter::Fixed(bound) => bound,
     }
 }
 
@@ -62,10 +62,11 @@ fn next_bound(falls: bool, fixed: u64, key: u64) -> u64
 pub fn pass_step(rule: PassRule, up: bool, cnt: usize, bound: u64, key: u64) -> Turn
     ensures { λ r. ⌜ r ≡ passStep (askIn rule) up cnt bound (keyIn key) ⌝ }
 {
+    let after = rule.after;
     if takes(rule, up, cnt, bound, key) {
         Turn {
             taken: true,
-            bound: next_bound(rule.falls, rule.fixed, key),
+            bound: next_bound(after, key),
         }
     } else {
         Turn {

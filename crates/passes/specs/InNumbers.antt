@@ -10,7 +10,8 @@ use Rattle.seq.specs.Lists.{countIf}
 use Rattle.def.specs.State.{slots, listPlaces}
 use Rattle.ordering.specs.Order.{Key}
 use Rattle.ordering.specs.InNumbers.{keysIn}
-use Rattle.passes.specs.declared.PassRule.{PassRule}
+use Rattle.passes.specs.declared.{PassRule.PassRule, BoundAfter.BoundAfter}
+use Rattle.passes.specs.declared.BoundAfter.the-variants.{BelowTaken, Fixed}
 use Rattle.passes.specs.Passes.{Ask, below, sideOf, pass}
 
 -- The place of the key that comes after i others.
@@ -19,8 +20,9 @@ placeOf up num i = cond up (num - 1 - i) i
 
 -- ---- what a pass asks
 
-abbrev pub boundAfter : Bool → ℕ → ℕ → ℕ
-boundAfter falls fixed layer = cond falls (below layer) fixed
+abbrev pub boundAfter : BoundAfter → ℕ → ℕ
+boundAfter BelowTaken layer = below layer
+boundAfter (Fixed bound) layer = bound
 
 abbrev pub askIn : PassRule → Ask
 askIn r = record {
@@ -28,7 +30,7 @@ askIn r = record {
   poc = r .poc;
   old = λ k. ltb (k .poc) (r .oldest);
   start = r .start;
-  after = boundAfter (r .falls) (r .fixed);
+  after = boundAfter (r .after);
 }
 
 -- Two requests ask the same.

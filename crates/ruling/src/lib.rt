@@ -3,6 +3,7 @@
 use def::RefpCall;
 use def::SliceType;
 use one_step::layer_below;
+use passes::BoundAfter;
 use passes::PassRule;
 ghost use mathlib.Core.Path.{_≡_};
 ghost use lib.Dec.{ltb};
@@ -37,8 +38,7 @@ fn rule_p(call: RefpCall) -> PassRule
             poc,
             oldest,
             start: NO_BOUND,
-            falls: false,
-            fixed: NO_BOUND,
+            after: BoundAfter::Fixed(NO_BOUND),
         };
     }
     let start = if layer == 1 { 1 } else { NO_BOUND };
@@ -47,8 +47,7 @@ fn rule_p(call: RefpCall) -> PassRule
         poc,
         oldest: 0,
         start,
-        falls: false,
-        fixed: 1,
+        after: BoundAfter::Fixed(1),
     }
 }
 
@@ -62,8 +61,7 @@ fn rule_b(call: RefpCall) -> PassRule
         poc: call.poc as u64,
         oldest,
         start,
-        falls: true,
-        fixed: 0,
+        after: BoundAfter::BelowTaken,
     }
 }
 
