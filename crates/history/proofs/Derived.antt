@@ -20,7 +20,8 @@ use Rattle.def.specs.declared.Refusal.the-variants.{NumberTooHigh, BadLayer, Ba
 use Rattle.def.specs.Word.{twosComplement, signedOf}
 use Rattle.def.proofs.WordLaws.{signed-of-complement}
 use Rattle.poc.specs.declared.{PocAnswer.PocAnswer, Derivation.Derivation}
-use Rattle.poc.specs.PictureNumber.{maxPoc, maxLog2, settled, keyPicture, otherPicture, derivationRefused, badRecord, nextOffset, nextPrevious, offsetFrom, number, recordOf, derive}
+use Rattle.poc.specs.PictureNumber.{maxPoc, maxLog2, settled, keyPicture, otherPicture, derivationRefused, badRecord}
+use Rattle.poc.specs.PictureNumber.{nextOffset, nextPrevious, offsetFrom, number, recordOf, derive}
 use Rattle.poc.specs.Distance as poc
 use Rattle.poc.specs.Distance.{run, acceptedSteps, numberOf}
 use Rattle.poc.proofs.Clip.{clip-rule}
@@ -78,17 +79,20 @@ module _ (c : poc.Call) (r : EvcPoc) where
   abbrev Fits : PocAnswer → Type 0
   Fits a = mag (numberOf (record { call = c; answer = a; after = r })) < 2 ^ 31
 
+  abbrev derivedAs : ℤ → ℕ → ℕ → Derivation
+  derivedAs z prev k = record { answer = PocAnswer.Derived (record { 0 = z }); poc = recordOf z prev k }
+
   settled-fits : (z : ℤ) (prev k : ℕ) → ((n : ℕ) → z ≡ negsuc n → n < 2 ^ 31) → Fits (settled r z prev k .answer)
   settled-fits (pos n) prev k small = pick (ltb maxPoc n) refl (ltb maxPoc prev)
     where
       pick : (b : Bool) → ltb maxPoc n ≡ b → (h : Bool)
-          → Fits (cond (b || h) (derivationRefused NumberTooHigh r) (record { answer = PocAnswer.Derived (record { 0 = pos n }); poc = recordOf (pos n) prev k }) .answer)
+          → Fits (cond (b || h) (derivationRefused NumberTooHigh r) (derivedAs (pos n) prev k) .answer)
       pick true t h = omega arith
       pick false t true = omega arith
       pick false t false = let l = ltb-false maxPoc n t in omega arith
   settled-fits (negsuc n) prev k small = pick (ltb maxPoc prev)
     where
-      pick : (h : Bool) → Fits (cond h (derivationRefused NumberTooHigh r) (record { answer = PocAnswer.Derived (record { 0 = negsuc n }); poc = recordOf (negsuc n) prev k }) .answer)
+      pick : (h : Bool) → Fits (cond h (derivationRefused NumberTooHigh r) (derivedAs (negsuc n) prev k) .answer)
       pick true = omega arith
       pick false = small n refl
 
@@ -103,7 +107,8 @@ module _ (c : poc.Call) (r : EvcPoc) where
       t = c .layer
 
       pick : (long : Bool) → ltb maxLog2 L ≡ long → (high bad key : Bool)
-          → Fits (cond (long || high) (derivationRefused BadLayer r) (cond bad (derivationRefused BadRecord r) (cond key (keyPicture L r) (otherPicture L t r))) .answer)
+          → Fits (cond (long || high) (derivationRefused BadLayer r)
+          (cond bad (derivationRefused BadRecord r) (cond key (keyPicture L r) (otherPicture L t r))) .answer)
       pick true e high bad key = omega arith
       pick false e true bad key = omega arith
       pick false e false true key = omega arith

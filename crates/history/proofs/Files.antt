@@ -4,7 +4,7 @@ use Prim.Native.Nat.{ℕ, _+_}
 use mathlib.Core.Path.{_≡_, refl, ap}
 use mathlib.Core.Bool.{Bool, true, false, not, _&&_}
 use mathlib.Core.Bool as Bool
-use mathlib.Core.List.{List, [], _∷_, _++_, map, flatMap}
+use mathlib.Core.List.{List, [], _∷_, map, flatMap}
 use native.Mathlib.Omega.{arith}
 use lib.Dec.{eqb}
 use mir.Val.{boolByte}
@@ -21,7 +21,8 @@ use Rattle.run.specs.Run.{answersTo, program}
 use Rattle.line.specs.Lines.{linesFrom}
 use Rattle.machine.specs.Claims.{Sound}
 use Rattle.machine.proofs.EveryCall.{line-sound, new-sound}
-use Rattle.history.specs.Files.{Turn, turns, leaves, ProgramShows, ifSo, putNumber, outNumber, putNumbers, outNumbers, waiting, OnePictureOneFile, FilesDiffer}
+use Rattle.history.specs.Files.{Turn, turns, leaves, ProgramShows, OnePictureOneFile, FilesDiffer}
+use Rattle.history.specs.Files.{ifSo, putNumber, outNumber, putNumbers, outNumbers, waiting}
 use Rattle.history.specs.Pictures.{Content}
 use Rattle.history.proofs.Calls as acts
 use Rattle.history.proofs.Calls.{Blind, GetActs, PutActs, OutActs, InitActs, get-acts, put-acts, out-acts, init-acts, lists-acts, refused-status}
@@ -115,7 +116,8 @@ module _ (n : ℕ) where
   -- ---- line after line
 
   run-flows : (m : Machine) (ls : List Line) → Sound m
-      → countIf (eqb n) (putNumbers (turns m ls)) + countIf waits (m .pm .pic) ≡ countIf (eqb n) (outNumbers (turns m ls)) + countIf waits (leaves m ls .pm .pic)
+      → countIf (eqb n) (putNumbers (turns m ls)) + countIf waits (m .pm .pic)
+      ≡ countIf (eqb n) (outNumbers (turns m ls)) + countIf waits (leaves m ls .pm .pic)
   unfolding turns leaves flatMap
   run-flows m [] s = refl
   run-flows m (l ∷ ls) s =
@@ -145,7 +147,7 @@ files-differ lines d =
 program-turns : (m : Machine) (ls : List (List ℕ)) → answersTo m ls ≡ flatMap (λ (t : Turn). answerLine (t .reply)) (turns m (map readLine ls))
 unfolding answersTo turns flatMap
 program-turns m [] = refl
-program-turns m (l ∷ ls) = ap (λ (rest : List ℕ). answerLine (stepLine m (readLine l) .reply) ++ rest) (program-turns (stepLine m (readLine l) .machine) ls)
+program-turns m (l ∷ ls) = rw (program-turns (stepLine m (readLine l) .machine) ls) refl
 
 pub program-shows : ProgramShows
 unfolding program

@@ -19,10 +19,12 @@ use Rattle.line.specs.declared.{Call.Call}
 use Rattle.line.specs.Answers.{replyOf}
 use Rattle.machine.specs.declared.Machine.{Machine}
 use Rattle.machine.specs.Step.{putCallOf, refpCallOf, step}
-use Rattle.history.specs.Pictures.{Content, contentOf, contents, heldContents, Exchange, nothing, dropsLease, makes, returned, returns, exchange, Exchanged, CallPictures, Stays, EachPicture}
+use Rattle.history.specs.Pictures.{Content, contentOf, contents, heldContents, CallPictures, Stays, EachPicture}
+use Rattle.history.specs.Pictures.{Exchange, nothing, dropsLease, makes, returned, returns, exchange, Exchanged}
 use Rattle.history.proofs.Counting.{count-select, reordered-mem}
 use Rattle.history.proofs.Calls as acts
-use Rattle.history.proofs.Calls.{Blind, GetActs, PutActs, OutActs, InitActs, get-acts, put-acts, out-acts, init-acts, OnlyCounts, lists-acts, refused-status}
+use Rattle.history.proofs.Calls.{Blind, GetActs, PutActs, OutActs, InitActs, OnlyCounts}
+use Rattle.history.proofs.Calls.{get-acts, put-acts, out-acts, init-acts, lists-acts, refused-status}
 
 -- ---- one test of contents
 
@@ -45,7 +47,7 @@ module _ (p : Content → Bool) where
   absent s e = rw e
 
   same-slot : {s t : Slot} → s ≡ t → boolByte (holding s) ≡ boolByte (holding t)
-  same-slot e = ap (λ (s : Slot). boolByte (holding s)) e
+  same-slot e = rw e refl
 
   blind : Blind holding
   blind s = refl
@@ -78,7 +80,8 @@ module _ (m : Machine) where
   abbrev lease : Slot
   lease = m .pm .«pic_lease»
 
-  init-pictures : (size refs : ℕ) {a : Answer} {q : EvcPm} → InitActs (m .pm) a q → Exchanged before (exchange m (Call.Init size refs) (replyOf 1 a)) (heldContents q)
+  init-pictures : (size refs : ℕ) {a : Answer} {q : EvcPm} → InitActs (m .pm) a q
+      → Exchanged before (exchange m (Call.Init size refs) (replyOf 1 a)) (heldContents q)
   init-pictures size refs (acts.turned-down why) = rw (refused-status why) (λ p. refl)
   init-pictures size refs (acts.dropped {q = q} l s) = λ p.
       balanced p (m .pm) q (dropsLease m)
@@ -87,7 +90,8 @@ module _ (m : Machine) where
   get-pictures : {a : Answer} {q : EvcPm} → GetActs (m .pm) a q → Exchanged before (exchange m Call.GetEmptyPic (replyOf 2 a)) (heldContents q)
   get-pictures (acts.turned-down why) = rw (refused-status why) (λ p. refl)
   get-pictures (acts.took-idle {q = q} s idle mem free l swap) =
-      rw (mem-any (heldBuffers (m .pm)) (Memᴰ·map bufferOf (select-mem isPresent (places (m .pm)) (Memᴰ·append-left (leases (m .pm)) mem) (and-left (s .present) _ idle))))
+      let present = select-mem isPresent (places (m .pm)) (Memᴰ·append-left (leases (m .pm)) mem) (and-left (s .present) _ idle) in
+      rw (mem-any (heldBuffers (m .pm)) (Memᴰ·map bufferOf present))
       (λ p. balanced p (m .pm) q nothing (omega (arith, none p, absent p lease free, same-slot p l, swap (holding p) (blind p))))
   get-pictures (acts.made-new {q = q} b new free l s) =
       rw (not-any b (heldBuffers (m .pm)) new)

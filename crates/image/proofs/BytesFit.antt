@@ -6,7 +6,8 @@ use native.Mathlib.Omega.{arith}
 use Rattle.seq.proofs.Rows.{length-entries, entries-each}
 use Rattle.def.specs.State.{slots, listPlaces}
 use Rattle.def.proofs.WordLaws.{signed-fits}
-use Rattle.image.specs.Image.{wordWidth, slotWidth, refpWidth, leasePlace, scalarsPlace, refpPlace, pocPlace, Bytes, wordAt, listAt, slotAt, pmOf, refpAt, refpOf, pocOf}
+use Rattle.image.specs.Image.{wordWidth, slotWidth, refpWidth, leasePlace, scalarsPlace, refpPlace, pocPlace}
+use Rattle.image.specs.Image.{Bytes, wordAt, listAt, slotAt, pmOf, refpAt, refpOf, pocOf}
 use Rattle.image.specs.Fits.{FitsWord, ListFits, SlotFits, PmFits, RefPFits, PocFits, ContentsFit}
 use Rattle.image.specs.Claims.{BytesFit}
 

@@ -14,7 +14,9 @@ use Rattle.seq.proofs.Rows.{Stands, stands-one, stands-then, stands-whole, writ
 use Rattle.def.specs.State.{slots, listPlaces}
 use Rattle.def.specs.Word.{wordBytes, twosComplement, signedOf}
 use Rattle.def.proofs.WordLaws.{bytes-of-word, complement-of-signed}
-use Rattle.image.specs.Image.{slotWidth, refpWidth, leasePlace, scalarsPlace, refpPlace, pocPlace, imageLength, flagByte, listBytes, slotBytes, scalarBytes, pmBytes, refpBytes, pocBytes, imageBytes, byteAt, Bytes, flagAt, wordAt, rowAt, listAt, slotAt, pmOf, refpAt, refpOf, pocOf, isFlag, slotFlags, isImage}
+use Rattle.image.specs.Image.{slotWidth, refpWidth, leasePlace, scalarsPlace, refpPlace, pocPlace, imageLength, Bytes, isFlag, slotFlags, isImage}
+use Rattle.image.specs.Image.{flagByte, listBytes, slotBytes, scalarBytes, pmBytes, refpBytes, pocBytes, imageBytes}
+use Rattle.image.specs.Image.{byteAt, flagAt, wordAt, rowAt, listAt, slotAt, pmOf, refpAt, refpOf, pocOf}
 use Rattle.image.specs.Claims.{BytesKept}
 
 flag-byte : (b : ℕ) → b ≤ 1 → flagByte (eqb b 1) ≡ b
@@ -56,7 +58,9 @@ module _ (bs : List ℕ) (bytes : Bytes bs) where
   unfolding wordAt
   word-stands i h =
       subst (λ (l : List ℕ). Stands bs i l 4)
-      (sym (bytes-of-word (byteAt bs i) (byteAt bs (i + 1)) (byteAt bs (i + 2)) (byteAt bs (i + 3)) (bytes .each i) (bytes .each (i + 1)) (bytes .each (i + 2)) (bytes .each (i + 3))))
+      (sym
+      (bytes-of-word (byteAt bs i) (byteAt bs (i + 1)) (byteAt bs (i + 2)) (byteAt bs (i + 3))
+      (bytes .each i) (bytes .each (i + 1)) (bytes .each (i + 2)) (bytes .each (i + 3))))
       (stands-then (stands-then (stands-then (one i (omega arith)) (one (i + 1) (omega arith))) (one (i + 2) (omega arith))) (one (i + 3) (omega arith)))
 
   list-stands : (i : ℕ) → i + 84 ≤ length bs → Stands bs i (listBytes (listAt bs i)) 84
@@ -112,7 +116,9 @@ module _ (bs : List ℕ) (bytes : Bytes bs) where
   refps-stand : ((k : ℕ) → k < 2 * listPlaces → isFlag bs (refpPlace + refpWidth * k) ≡ true) → pocPlace ≤ length bs
       → Stands bs refpPlace (flatMap refpBytes (refpOf bs)) (refpWidth * (2 * listPlaces))
   unfolding refpOf
-  refps-stand flags h = write-row refpBytes refpWidth (refpAt bs) refpPlace (2 * listPlaces) (λ j k. refp-stands (refpPlace + refpWidth * j) (flags j k) (omega arith))
+  refps-stand flags h =
+      write-row refpBytes refpWidth (refpAt bs) refpPlace (2 * listPlaces)
+      (λ j k. refp-stands (refpPlace + refpWidth * j) (flags j k) (omega arith))
 
   signed-stands : (i : ℕ) → i + 4 ≤ length bs → Stands bs i (wordBytes (twosComplement (signedOf (wordAt bs i)))) 4
   unfolding wordAt
@@ -122,7 +128,9 @@ module _ (bs : List ℕ) (bytes : Bytes bs) where
 
   poc-stands : imageLength ≤ length bs → Stands bs pocPlace (pocBytes (pocOf bs)) 12
   unfolding pocBytes pocOf
-  poc-stands h = stands-then (signed-stands pocPlace (omega arith)) (stands-then (word-stands (pocPlace + 4) (omega arith)) (signed-stands (pocPlace + 8) (omega arith)))
+  poc-stands h =
+      stands-then (signed-stands pocPlace (omega arith))
+      (stands-then (word-stands (pocPlace + 4) (omega arith)) (signed-stands (pocPlace + 8) (omega arith)))
 
   -- Bytes to contents and back.
   image-kept : isImage bs ≡ true → imageBytes (pmOf bs) (refpOf bs) (pocOf bs) ≡ bs
@@ -131,7 +139,9 @@ module _ (bs : List ℕ) (bytes : Bytes bs) where
       let size = image-long bs e in
       stands-whole
       (stands-then (pm-stands (test-at (slotFlags bs) (λ k. 0 + slotWidth * k) (slots + 1) (slots-flagged bs e)) (omega arith))
-      (stands-then (refps-stand (test-at (isFlag bs) (λ k. refpPlace + refpWidth * k) (2 * listPlaces) (refps-flagged bs e)) (omega arith)) (poc-stands (omega arith))))
+      (stands-then
+      (refps-stand (test-at (isFlag bs) (λ k. refpPlace + refpWidth * k) (2 * listPlaces) (refps-flagged bs e)) (omega arith))
+      (poc-stands (omega arith))))
       size
 
 pub bytes-kept : BytesKept

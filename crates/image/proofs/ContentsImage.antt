@@ -1,6 +1,6 @@
 -- The bytes of fitting contents are bytes, and an image.
 -- Assumes nothing.
-use mathlib.Core.Path.{_≡_, sym, ap, _∙_, subst}
+use mathlib.Core.Path.{_≡_, sym, subst}
 use mathlib.Core.Bool.{Bool, true, false}
 use mathlib.Core.List.{List, [], _∷_, _++_, flatMap, List·Memᴰ}
 use mathlib.Core.Logic.{⊎-elim}
@@ -18,7 +18,8 @@ use Rattle.def.specs.declared.Slot.{Slot}
 use Rattle.def.specs.declared.EvcPm.{EvcPm}
 use Rattle.def.specs.declared.EvcRefP.{EvcRefP}
 use Rattle.def.specs.declared.EvcPoc.{EvcPoc}
-use Rattle.image.specs.Image.{slotWidth, refpWidth, leasePlace, refpPlace, imageLength, flagByte, listBytes, slotBytes, scalarBytes, pmBytes, refpBytes, pocBytes, imageBytes, byteAt, Bytes, isFlag, slotFlags, isImage}
+use Rattle.image.specs.Image.{slotWidth, refpWidth, leasePlace, refpPlace, imageLength, byteAt, Bytes, isFlag, slotFlags, isImage}
+use Rattle.image.specs.Image.{flagByte, listBytes, slotBytes, scalarBytes, pmBytes, refpBytes, pocBytes, imageBytes}
 use Rattle.image.specs.Fits.{SlotFits, PmFits, RefPFits, ContentsFit}
 use Rattle.image.proofs.ContentsKept.{slot-width, refp-width, row-width, first, wide, state-stands, lists-stand}
 use Rattle.image.specs.Claims.{ContentsImage}
@@ -80,8 +81,8 @@ scalar-bytes pm f =
 -- ---- each flag byte is 0 or 1
 
 is-flag : (b : Bool) {n : ℕ} → n ≡ flagByte b → leb n 1 ≡ true
-is-flag true e = ap (λ (n : ℕ). leb n 1) e
-is-flag false e = ap (λ (n : ℕ). leb n 1) e
+is-flag true e = rw e
+is-flag false e = rw e
 
 slot-flags : {bs : List ℕ} {i : ℕ} (s : Slot) → Stands bs i (slotBytes s) slotWidth → slotFlags bs i ≡ true
 unfolding slotBytes
@@ -140,7 +141,7 @@ module _ (pm : EvcPm) (refp : List EvcRefP) (poc : EvcPoc) (f : ContentsFit pm r
           (stands-in-row slotBytes slotWidth noSlot (pm .pic) (λ s m. slot-width s (f .state .each s m)) 0 pic-stands k (let e = f .state .size in omega arith))
 
       last : slots ≤ k → slotFlags image (0 + slotWidth * k) ≡ true
-      last g = let e : k ≡ slots = omega arith in ap (λ (n : ℕ). slotFlags image (0 + slotWidth * n)) e ∙ slot-flags (pm .«pic_lease») lease-stands
+      last g = let e : k ≡ slots = omega arith in rw e (slot-flags (pm .«pic_lease») lease-stands)
 
   in-lists : (k : ℕ) → k < 2 * listPlaces → isFlag image (refpPlace + refpWidth * k) ≡ true
   in-lists k h =

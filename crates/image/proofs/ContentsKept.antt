@@ -18,13 +18,15 @@ use Rattle.def.specs.declared.Slot.{Slot}
 use Rattle.def.specs.declared.EvcPm.{EvcPm}
 use Rattle.def.specs.declared.EvcRefP.{EvcRefP}
 use Rattle.def.specs.declared.EvcPoc.{EvcPoc}
-use Rattle.image.specs.Image.{wordWidth, slotWidth, refpWidth, leasePlace, scalarsPlace, refpPlace, pocPlace, imageLength, flagByte, listBytes, slotBytes, scalarBytes, pmBytes, refpBytes, pocBytes, imageBytes, byteAt, flagAt, wordAt, rowAt, listAt, slotAt, pmOf, refpAt, refpOf, pocOf}
+use Rattle.image.specs.Image.{wordWidth, slotWidth, refpWidth, leasePlace, scalarsPlace, refpPlace, pocPlace, imageLength}
+use Rattle.image.specs.Image.{flagByte, listBytes, slotBytes, scalarBytes, pmBytes, refpBytes, pocBytes, imageBytes}
+use Rattle.image.specs.Image.{byteAt, flagAt, wordAt, rowAt, listAt, slotAt, pmOf, refpAt, refpOf, pocOf}
 use Rattle.image.specs.Fits.{ListFits, SlotFits, PmFits, RefPFits, PocFits, ContentsFit}
 use Rattle.image.specs.Claims.{ContentsKept}
 
 flag-read : (b : Bool) {n : ℕ} → n ≡ flagByte b → eqb n 1 ≡ b
-flag-read true e = ap (λ (n : ℕ). eqb n 1) e
-flag-read false e = ap (λ (n : ℕ). eqb n 1) e
+flag-read true e = rw e refl
+flag-read false e = rw e refl
 
 -- ---- how many bytes a part has
 
@@ -46,12 +48,17 @@ row-width pm f = length-row slotBytes slotWidth (pm .pic) (λ s m. slot-width s 
 pm-width : (pm : EvcPm) → PmFits pm → length (pmBytes pm) ≡ refpPlace
 unfolding pmBytes scalarBytes
 pm-width pm f =
-    length-append (flatMap slotBytes (pm .pic)) (slotBytes (pm .«pic_lease») ++ scalarBytes pm)
-    ∙ ap (λ (n : ℕ). n + length (slotBytes (pm .«pic_lease») ++ scalarBytes pm)) (row-width pm f)
-    ∙ ap (λ (n : ℕ). leasePlace + n)
-    (length-append (slotBytes (pm .«pic_lease»)) (scalarBytes pm) ∙ ap (λ (n : ℕ). n + 11) (slot-width (pm .«pic_lease») (f .lease)))
+    let lease = slotBytes (pm .«pic_lease») in
+    omega (
+      arith,
+      length-append (flatMap slotBytes (pm .pic)) (lease ++ scalarBytes pm),
+      row-width pm f,
+      length-append lease (scalarBytes pm),
+      slot-width (pm .«pic_lease») (f .lease),
+    )
 
-refps-width : (refp : List EvcRefP) → length refp ≡ 2 * listPlaces → ((e : EvcRefP) → List·Memᴰ e refp → RefPFits e) → length (flatMap refpBytes refp) ≡ refpWidth * (2 * listPlaces)
+refps-width : (refp : List EvcRefP) → length refp ≡ 2 * listPlaces → ((e : EvcRefP) → List·Memᴰ e refp → RefPFits e)
+    → length (flatMap refpBytes refp) ≡ refpWidth * (2 * listPlaces)
 refps-width refp size f = length-row refpBytes refpWidth refp (λ e m. refp-width e (f e m)) ∙ ap (λ (n : ℕ). refpWidth * n) size
 
 -- ---- what is read where a part stands
@@ -143,9 +150,12 @@ module _ {bs : List ℕ} where
       let previous : List ℕ = wordBytes (r .«prev_poc_val») in
       let offset : List ℕ = wordBytes (twosComplement (r .«prev_doc_offset» .0)) in
       let behind : Stands bs (pocPlace + 4) (previous ++ offset) 8 = stands-right number (previous ++ offset) 4 8 refl p in
-      let e : signedOf (wordAt bs pocPlace) ≡ r .«poc_val» .0 = signed-read (r .«poc_val» .0) (f .number) (stands-left number (previous ++ offset) 4 8 refl p) in
-      let e4 : wordAt bs (pocPlace + 4) ≡ r .«prev_poc_val» = word-read (r .«prev_poc_val») (f .previous) (stands-left previous offset 4 4 refl behind) in
-      let e8 : signedOf (wordAt bs (pocPlace + 8)) ≡ r .«prev_doc_offset» .0 = signed-read (r .«prev_doc_offset» .0) (f .offset) (stands-right previous offset 4 4 refl behind) in
+      let e : signedOf (wordAt bs pocPlace) ≡ r .«poc_val» .0 =
+      signed-read (r .«poc_val» .0) (f .number) (stands-left number (previous ++ offset) 4 8 refl p) in
+      let e4 : wordAt bs (pocPlace + 4) ≡ r .«prev_poc_val» =
+      word-read (r .«prev_poc_val») (f .previous) (stands-left previous offset 4 4 refl behind) in
+      let e8 : signedOf (wordAt bs (pocPlace + 8)) ≡ r .«prev_doc_offset» .0 =
+      signed-read (r .«prev_doc_offset» .0) (f .offset) (stands-right previous offset 4 4 refl behind) in
       rw (e, e4, e8) refl
 
 -- ---- the whole
@@ -163,9 +173,13 @@ module _ (pm : EvcPm) (refp : List EvcRefP) (poc : EvcPoc) (f : ContentsFit pm r
   pub wide : length image ≡ imageLength
   unfolding imageBytes pocBytes
   wide =
-      length-append state (lists ++ pocBytes poc)
-      ∙ ap (λ (n : ℕ). n + length (lists ++ pocBytes poc)) (pm-width pm (f .state))
-      ∙ ap (λ (n : ℕ). refpPlace + n) (length-append lists (pocBytes poc) ∙ ap (λ (n : ℕ). n + 12) (refps-width refp (f .places) (f .entry)))
+      omega (
+        arith,
+        length-append state (lists ++ pocBytes poc),
+        pm-width pm (f .state),
+        length-append lists (pocBytes poc),
+        refps-width refp (f .places) (f .entry),
+      )
 
   all-stands : Stands image 0 (state ++ (lists ++ pocBytes poc)) imageLength
   unfolding imageBytes

@@ -13,7 +13,8 @@ use Rattle.machine.proofs.EveryCall.{refused-answer}
 use Rattle.exchange.specs.Lent.{badLine, Left, left, machineOf, machineBytes}
 use Rattle.image_copy.specs.Copied.{isEntry, copyInto, withLists, relisted, copied}
 
-pub copy-kept : (image : List ℕ) (bytes : Bytes image) (cnt lidx : ℕ) (entry : List ℕ) → NumberInUse (copied image cnt lidx entry .given) → copied image cnt lidx entry .image ≡ image
+pub copy-kept : (image : List ℕ) (bytes : Bytes image) (cnt lidx : ℕ) (entry : List ℕ)
+    → NumberInUse (copied image cnt lidx entry .given) → copied image cnt lidx entry .image ≡ image
 unfolding copied
 copy-kept image bytes cnt lidx entry t = go (isImage image && isEntry entry) refl t
   where

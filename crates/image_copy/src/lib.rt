@@ -27,8 +27,13 @@ fn is_entry(entry: &[u8]) -> bool
 // Copy on an image and an entry that are what they must be.
 fn copy_entry(image: &mut [u8], cnt: u64, lidx: u64, entry: &[u8]) -> u8
     requires { ⌜ (length (now image) ≡ imageLength) × (length (now entry) ≡ refpWidth) ⌝ }
-    ensures given { λ r. ⌜ left r (now (image .exit)) ≡ relisted (now (image .entry)) (copyInto (now (image .entry)) cnt lidx (now (entry .entry))) ⌝ }
-    ensures holds { λ _. ⌜ ImageHolds (now (image .exit)) (withLists (machineOf (now (image .entry))) (copyInto (now (image .entry)) cnt lidx (now (entry .entry)) .refp)) ⌝ }
+    ensures given { λ r.
+        let image-in = now (image .entry) in
+        ⌜ left r (now (image .exit)) ≡ relisted image-in (copyInto image-in cnt lidx (now (entry .entry))) ⌝ }
+    ensures holds { λ _.
+        let image-in = now (image .entry) in
+        let lists = copyInto image-in cnt lidx (now (entry .entry)) .refp in
+        ⌜ ImageHolds (now (image .exit)) (withLists (machineOf image-in) lists) ⌝ }
 {
     let machine = read_machine(image);
     let refp = machine.refp;

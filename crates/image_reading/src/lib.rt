@@ -24,13 +24,14 @@ use image::places::SLOT_WIDTH;
 use records::read_poc_at;
 use words::read_word;
 ghost use mathlib.Core.Path.{_≡_};
-ghost use Prim.Native.Nat.{_+_, _≤_};
+ghost use Prim.Native.Nat.{_+_, _*_, _≤_};
 ghost use lib.ListN.{length};
-ghost use Rattle.image.specs.Image.{slotWidth, refpWidth, imageLength, listAt, slotAt, pmOf, refpAt, refpOf, pocOf};
+ghost use Rattle.def.specs.State.{listPlaces};
+ghost use Rattle.image.specs.Image.{wordWidth, slotWidth, refpWidth, imageLength, listAt, slotAt, pmOf, refpAt, refpOf, pocOf};
 
 // The 21 list numbers of a picture or of a list entry.
 fn read_list(image: &[u8], at: usize) -> [u32; MAX_NUM_REF_PICS]
-    requires { ⌜ at + 84 ≤ length (now image) ⌝ }
+    requires { ⌜ at + wordWidth * listPlaces ≤ length (now image) ⌝ }
     ensures { λ r. ⌜ r ≡ listAt (now (image .entry)) at ⌝ }
 {
     let mut list = [0u32; MAX_NUM_REF_PICS];

@@ -17,7 +17,9 @@ ghost use Rattle.questions.specs.Asked.{reasonLength, whyLeft, shownWhy, whyOfI
 // A list request, of an image that was found to be one.
 fn ask_image(image: &[u8], call: RefpCall, slot: u8, reason: &mut [u8]) -> u8
     requires { ⌜ (length (now image) ≡ imageLength) × (length (now reason) ≡ reasonLength) ⌝ }
-    ensures { λ r. ⌜ whyLeft r (now (reason .exit)) ≡ shownWhy (why (pmOf (now (image .entry))) call slot) (now (reason .entry)) ⌝ }
+    ensures { λ r.
+        let pm = pmOf (now (image .entry)) in
+        ⌜ whyLeft r (now (reason .exit)) ≡ shownWhy (why pm call slot) (now (reason .entry)) ⌝ }
 {
     let pm = read_pm(image);
     show_why(reason, evc_picman_why(pm, call, slot))
@@ -25,7 +27,9 @@ fn ask_image(image: &[u8], call: RefpCall, slot: u8, reason: &mut [u8]) -> u8
 
 // Of an image: 0 and the reason, or the refusal.
 pub fn why_of_image(image: &[u8], call: &[u8], slot: u8, reason: &mut [u8]) -> u8
-    ensures { λ r. ⌜ whyLeft r (now (reason .exit)) ≡ whyOfImage (now (image .entry)) (now (call .entry)) slot (now (reason .entry)) ⌝ }
+    ensures { λ r.
+        ⌜ whyLeft r (now (reason .exit))
+        ≡ whyOfImage (now (image .entry)) (now (call .entry)) slot (now (reason .entry)) ⌝ }
 {
     if !is_image(image) {
         return BAD_LINE;

@@ -29,12 +29,13 @@ ghost use Prim.Native.Nat.{_+_, _*_, _≤_};
 ghost use lib.ListN.{length};
 ghost use Rattle.seq.specs.Lists.{Stored};
 ghost use Rattle.def.specs.State.{listPlaces};
-ghost use Rattle.image.specs.Image.{slotWidth, refpWidth, leasePlace, scalarsPlace, refpPlace, imageLength, listBytes, slotBytes, scalarBytes, pmBytes, refpBytes, imageBytes};
+ghost use Rattle.image.specs.Image.{wordWidth, slotWidth, refpWidth, leasePlace, scalarsPlace, refpPlace, imageLength};
+ghost use Rattle.image.specs.Image.{listBytes, slotBytes, scalarBytes, pmBytes, refpBytes, imageBytes};
 
 // The 21 list numbers of a picture or of a list entry.
 fn write_list(image: &mut [u8], at: usize, list: [u32; MAX_NUM_REF_PICS])
-    requires { ⌜ at + 84 ≤ length (now image) ⌝ }
-    ensures { λ _. ⌜ Stored (now (image .entry)) at (listBytes list) 84 (now (image .exit)) ⌝ }
+    requires { ⌜ at + wordWidth * listPlaces ≤ length (now image) ⌝ }
+    ensures { λ _. ⌜ Stored (now (image .entry)) at (listBytes list) (wordWidth * listPlaces) (now (image .exit)) ⌝ }
 {
     let mut i = 0;
     while i < MAX_NUM_REF_PICS {
@@ -110,7 +111,9 @@ fn write_refp(image: &mut [u8], at: usize, e: EvcRefP)
 // The two reference lists, flat, forward first.
 fn write_refps(image: &mut [u8], refp: [EvcRefP; REFP_PLACES])
     requires { ⌜ length (now image) ≡ imageLength ⌝ }
-    ensures { λ _. ⌜ Stored (now (image .entry)) refpPlace (flatMap refpBytes refp) (refpWidth * (2 * listPlaces)) (now (image .exit)) ⌝ }
+    ensures { λ _.
+        let bytes = flatMap refpBytes refp in
+        ⌜ Stored (now (image .entry)) refpPlace bytes (refpWidth * (2 * listPlaces)) (now (image .exit)) ⌝ }
 {
     let mut i = 0;
     while i < REFP_PLACES {

@@ -21,14 +21,15 @@ use Rattle.wire.specs.Wire.{answerLength}
 use Rattle.images.specs.Called.{Answered, answered, answerTo, renewed, called}
 
 -- from what a definition leaves to what the buffers hold
-pub answered-kept : {r : ℕ} {image image′ answer′ : List ℕ} {x : Answered} → answered r image′ answer′ ≡ x → (NumberInUse (x .given) → x .image ≡ image) → NumberInUse r → image′ ≡ image
+pub answered-kept : {r : ℕ} {image image′ answer′ : List ℕ} {x : Answered} → answered r image′ answer′ ≡ x
+    → (NumberInUse (x .given) → x .image ≡ image) → NumberInUse r → image′ ≡ image
 answered-kept e f t = ap (λ (y : Answered). y .image) e ∙ f (subst NumberInUse (ap (λ (y : Answered). y .given) e) t)
 
 pub new-kept : (image : List ℕ) → NumberInUse (renewed image .given) → renewed image .image ≡ image
 unfolding renewed
 new-kept image t = go (eqb (length image) imageLength) t
   where
-    go : (b : Bool) → NumberInUse (cond b (left 0 (machineBytes newMachine)) (left badLine image) .given) → cond b (left 0 (machineBytes newMachine)) (left badLine image) .image ≡ image
+    go : (b : Bool) → let x = cond b (left 0 (machineBytes newMachine)) (left badLine image) in NumberInUse (x .given) → x .image ≡ image
     go true u = absurd (omega (arith, u .0))
     go false u = refl
 

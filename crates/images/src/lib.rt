@@ -41,7 +41,9 @@ pub fn renew_image(image: &mut [u8]) -> u8
 // A good call on buffers that are what they must be.
 fn answer_good(image: &mut [u8], call: Call, answer: &mut [u8]) -> u8
     requires { ⌜ (length (now image) ≡ imageLength) × (length (now answer) ≡ answerLength) ⌝ }
-    ensures given { λ r. ⌜ answered r (now (image .exit)) (now (answer .exit)) ≡ replied (step (machineOf (now (image .entry))) call) ⌝ }
+    ensures given { λ r.
+        let machine = machineOf (now (image .entry)) in
+        ⌜ answered r (now (image .exit)) (now (answer .exit)) ≡ replied (step machine call) ⌝ }
     ensures holds { λ _. ⌜ ImageHolds (now (image .exit)) (step (machineOf (now (image .entry))) call .machine) ⌝ }
 {
     let before = read_machine(image);
@@ -63,7 +65,9 @@ fn answer_bad(answer: &mut [u8]) -> u8
 
 // One call: the bytes of a call line, check byte too, not in hex. Writes the answer and gives its status.
 pub fn call_image(image: &mut [u8], call: &[u8], answer: &mut [u8]) -> u8
-    ensures { λ r. ⌜ Answers r (now (image .entry)) (now (call .entry)) (now (answer .entry)) (now (image .exit)) (now (answer .exit)) ⌝ }
+    ensures { λ r.
+        ⌜ Answers r (now (image .entry)) (now (call .entry)) (now (answer .entry))
+        (now (image .exit)) (now (answer .exit)) ⌝ }
 {
     if !is_image(image) {
         return BAD_LINE;

@@ -39,7 +39,8 @@ use Rattle.line.specs.declared.Line.the-variants.{Good, Bad}
 use Rattle.line.specs.Answers.{replyOf}
 use Rattle.machine.specs.declared.Machine.{Machine}
 use Rattle.machine.specs.Step.{putCallOf, refpCallOf, derivedReply, step, stepLine}
-use Rattle.machine.specs.Claims.{TurnedDown, CallUnchanged, LineUnchanged, CallSound, LineSound, NewSound, CallNotSeven, LineNotSeven, OfNoLine, CallGivesNone, LineGivesNone}
+use Rattle.machine.specs.Claims.{TurnedDown, CallUnchanged, LineUnchanged, CallSound, LineSound, NewSound}
+use Rattle.machine.specs.Claims.{CallNotSeven, LineNotSeven, OfNoLine, CallGivesNone, LineGivesNone}
 use Rattle.machine.specs.Claims.OfNoLine.{planners, writers}
 
 -- ---- a call that is turned down
@@ -72,7 +73,8 @@ call-unchanged m (PutPic flags poc tid gap) t =
 call-unchanged m OutPic t = refused-answer 4 _ t (λ why e. ap (withState m) (out-refused (m .pm) why e))
 call-unchanged m (RefpInit slice poc layer intra limit) t =
     refused-answer 5 _ t
-    (λ why e. ap (λ (r : RefpResult). record { pm = r .pm; refp = r .refp; poc = m .poc }) (lists-refused-unchanged (m .pm) (m .refp) (refpCallOf slice poc layer intra limit) why e))
+    (λ why e. ap (λ (r : RefpResult). record { pm = r .pm; refp = r .refp; poc = m .poc })
+    (lists-refused-unchanged (m .pm) (m .refp) (refpCallOf slice poc layer intra limit) why e))
 call-unchanged m (PocDerivation L t) d = refused-number _ d (λ why e. ap (withRecord m) (derive-refused L t (m .poc) why e))
 
 pub line-unchanged : LineUnchanged

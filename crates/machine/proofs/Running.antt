@@ -8,14 +8,14 @@ use Prim.Native.Nat.{ℕ, zero, suc, _+_, _-_, _*_, _≤_, _<_}
 use native.Mathlib.Omega.{arith}
 use lib.ListN.{getD, take, drop, length-map, replicate, getD-replicate}
 use Rattle.seq.specs.Lists.{entriesFrom, entries}
-use Rattle.def.specs.declared.{EvcPm.EvcPm, EvcRefP.EvcRefP, EvcPoc.EvcPoc, PutCall.PutCall, RefpCall.RefpCall, PmResult.PmResult, RefpResult.RefpResult}
+use Rattle.def.specs.declared.{EvcPm.EvcPm, EvcRefP.EvcRefP, PutCall.PutCall, RefpCall.RefpCall, PmResult.PmResult, RefpResult.RefpResult}
 use Rattle.def.specs.State.{slots}
 use Rattle.keys.specs.Keys.{rowLength, headRow, numberRow, entryRow, rowsLength, rowAt, slotAt, entryAt, stands, listsIn, Sized}
-use Rattle.keys.specs.declared.{Called.Called, Rest.Rest}
+use Rattle.keys.specs.declared.{Called.Called}
 use Rattle.poc.specs.PictureNumber.{derive}
 use Rattle.poc.proofs.Why.{derive-refused}
 use Rattle.picman.specs.OnKeys.{Calls}
-use Rattle.picman.specs.{Init.init, Init.initWhole, Get.get, Get.getWhole, Out.out, Out.outWhole, Put.remarked, Put.putMarked, Put.putWhole, Put.put}
+use Rattle.picman.specs.{Init.init, Init.initWhole, Get.get, Get.getWhole, Out.out, Out.outWhole, Put.putMarked, Put.putWhole, Put.put}
 use Rattle.refp.specs.Lists.{listsWhole, lists}
 use Rattle.refp.specs.Running.{ListsCame}
 use Rattle.whole.specs.Whole.{whole}
@@ -36,9 +36,9 @@ sound-in {keys} {rows} r = record { whole-state = r .whole-state; all-slots = le
 -- ---- the new machine is what arrays of zeros and the new scalars stand for
 
 zeros-dropped : (i n : ℕ) → drop {A = ℕ} i (replicate n 0) ≡ replicate (n - i) 0
-zeros-dropped zero n = let e : n ≡ n - 0 = omega arith in ap (λ (k : ℕ). replicate {A = ℕ} k 0) e
-zeros-dropped (suc i) zero = let e : 0 ≡ 0 - suc i = omega arith in ap (λ (k : ℕ). replicate {A = ℕ} k 0) e
-zeros-dropped (suc i) (suc n) = let e : n - i ≡ suc n - suc i = omega arith in zeros-dropped i n ∙ ap (λ (k : ℕ). replicate {A = ℕ} k 0) e
+zeros-dropped zero n = let e : n - 0 ≡ n = omega arith in rw e refl
+zeros-dropped (suc i) zero = let e : 0 - suc i ≡ 0 = omega arith in rw e refl
+zeros-dropped (suc i) (suc n) = let e : suc n - suc i ≡ n - i = omega arith in rw e (zeros-dropped i n)
 
 zeros-taken : (i n : ℕ) → i ≤ n → take {A = ℕ} i (replicate n 0) ≡ replicate i 0
 zeros-taken zero n h = refl
@@ -54,12 +54,13 @@ module _ (rows : List ℕ) (e : rows ≡ replicate rowsLength 0) where
   new-entry : (j : ℕ) → j < 42 → entryAt rows j ≡ newRefP
   unfolding rowAt
   new-entry j h =
-      let head : getD rows (rowLength * headRow + j) 0 ≡ 0 = ap (λ (l : List ℕ). getD l (rowLength * headRow + j) 0) e ∙ getD-replicate rowsLength (rowLength * headRow + j) 0 0 (omega arith) in
-      let number : getD rows (rowLength * numberRow + j) 0 ≡ 0 = ap (λ (l : List ℕ). getD l (rowLength * numberRow + j) 0) e ∙ getD-replicate rowsLength (rowLength * numberRow + j) 0 0 (omega arith) in
+      let head : getD rows (rowLength * headRow + j) 0 ≡ 0 =
+      rw e (getD-replicate rowsLength (rowLength * headRow + j) 0 0 (omega arith)) in
+      let number : getD rows (rowLength * numberRow + j) 0 ≡ 0 =
+      rw e (getD-replicate rowsLength (rowLength * numberRow + j) 0 0 (omega arith)) in
       let row : take rowLength (drop (rowLength * (entryRow + j)) rows) ≡ replicate rowLength 0 =
-      ap (λ (l : List ℕ). take rowLength (drop (rowLength * (entryRow + j)) l)) e
-      ∙ ap (take rowLength) (zeros-dropped (rowLength * (entryRow + j)) rowsLength)
-      ∙ zeros-taken rowLength (rowsLength - rowLength * (entryRow + j)) (omega arith) in
+      rw (e, zeros-dropped (rowLength * (entryRow + j)) rowsLength)
+      (zeros-taken rowLength (rowsLength - rowLength * (entryRow + j)) (omega arith)) in
       rw (head, number, row) refl
 
   pub new-lists : listsIn rows ≡ newLists
@@ -84,14 +85,14 @@ unfolding out
 out-on-whole pm w = rw w
 
 pub put-on-whole : (pm : EvcPm) (refp : List EvcRefP) (c : PutCall) → whole pm ≡ true → put pm refp c ≡ putWhole pm refp c
-put-on-whole pm refp c w = ap (λ (b : Bool). putMarked b pm (remarked c pm) refp c) w
+put-on-whole pm refp c w = rw w refl
 
 module _ (keys rows : List ℕ) (s : Scalars) (call : ℕ) where
   abbrev m : Machine
   m = machineIn keys rows s
 
   rest-stays : (r : Called) → r .rest ≡ s .rest → record { rest = r .rest; poc = s .poc } ≡ s
-  rest-stays r e = ap (λ (q : Rest). record { rest = q; poc = s .poc }) e
+  rest-stays r e = rw e refl
 
   -- A call on the state.
   pub state-makes : {made : Made} {r : Called} {keys′ rows′ : List ℕ} {x w : PmResult}
@@ -134,7 +135,7 @@ record-makes keys rows s L t sized e = rw e (record {
   machine-is = refl;
   still-sized = sized;
   refused-leaves = λ d. refused-number (derive L t (s .poc) .answer) d (λ why a.
-      record { same-keys = refl; same-rows = refl; same-scalars = ap (λ (p : EvcPoc). record { rest = s .rest; poc = p }) (derive-refused L t (s .poc) why a) });
+      record { same-keys = refl; same-rows = refl; same-scalars = rw (derive-refused L t (s .poc) why a) refl });
 })
 
 -- A call on a machine that runs leaves one that runs.
@@ -167,7 +168,7 @@ not-whole-step m GetEmptyPic r w = rw w
 not-whole-step m (PutPic flags poc tid gap) r w = not-whole-put (putCallOf flags poc tid gap)
   where
     not-whole-put : (c : PutCall) → onState 3 m (put (m .pm) (m .refp) c) ≡ stepped (replyOf 3 (Refused StateNotWhole)) m
-    not-whole-put c = ap (λ (b : Bool). onState 3 m (putMarked b (m .pm) (remarked c (m .pm)) (m .refp) c)) w
+    not-whole-put c = rw w refl
 not-whole-step m OutPic r w = rw w
 not-whole-step m (RefpInit slice poc layer intra limit) r w = not-whole-lists (refpCallOf slice poc layer intra limit)
   where
@@ -183,7 +184,8 @@ module _ {keys rows : List ℕ} (s : Scalars) (sized : Sized keys rows) where
       → Makes made s keys rows keys rows (step (machineIn keys rows s) call)
   refused-makes call n made e = both (readsState call) refl (whole (stands keys rows (s .rest))) refl n
     where
-      both : (b : Bool) → readsState call ≡ b → (w : Bool) → whole (stands keys rows (s .rest)) ≡ w → (not b || w) ≡ false → Makes made s keys rows keys rows (step (machineIn keys rows s) call)
+      both : (b : Bool) → readsState call ≡ b → (w : Bool) → whole (stands keys rows (s .rest)) ≡ w → (not b || w) ≡ false
+          → Makes made s keys rows keys rows (step (machineIn keys rows s) call)
       both false r w v x = absurd (Bool.true≢false x)
       both true r true v x = absurd (Bool.true≢false x)
       both true r false v x = rw (e, not-whole-step (machineIn keys rows s) call r v) (record {

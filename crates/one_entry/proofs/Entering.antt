@@ -1,6 +1,6 @@
 -- The copy of one entry, by what fits.
 -- Assumes nothing.
-use mathlib.Core.Path.{_≡_, refl, sym, ap, _∙_, subst}
+use mathlib.Core.Path.{_≡_, refl, sym, _∙_, subst}
 use mathlib.Core.Bool.{Bool, true, false, _&&_, true≢false}
 use mathlib.Core.List.{List}
 use Prim.Native.Nat.{ℕ, _+_, _*_, _/_, _%_, _<_}
@@ -32,7 +32,8 @@ fitting rows present numbers e =
     )
 
 -- twice the buffer number plus the flag is read back
-pub entry-is : (present buf poc : ℕ) (numbers : List ℕ) → present < 2 → buf < 256 → entryWith (2 * buf + present) poc numbers ≡ entryGiven present buf poc numbers
+pub entry-is : (present buf poc : ℕ) (numbers : List ℕ) → present < 2 → buf < 256
+    → entryWith (2 * buf + present) poc numbers ≡ entryGiven present buf poc numbers
 entry-is present buf poc numbers f b =
     let low : (2 * buf + present) % 2 ≡ present = omega arith in
     let high : (2 * buf + present) / 2 ≡ buf = omega arith in
@@ -57,10 +58,9 @@ module _ (rows numbers : List ℕ) (cnt lidx present buf poc : ℕ) where
   placed {head} {got} {answer} {after} e b h n came replied =
       let fit = fitting rows present numbers e in
       let entry : entryWith head poc got ≡ entryGiven present buf poc numbers = rw (h, n) (entry-is present buf poc numbers (fit .2) b) in
-      let is : copy (listsIn rows) cnt lidx (entryWith head poc got) ≡ copy (listsIn rows) cnt lidx (entryGiven present buf poc numbers) = ap (copy (listsIn rows) cnt lidx) entry in
-      let comes : CopyCame answer rows after (copy (listsIn rows) cnt lidx (entryGiven present buf poc numbers)) = subst (CopyCame answer rows after) is came in
+      let comes : CopyCame answer rows after (copy (listsIn rows) cnt lidx (entryGiven present buf poc numbers)) = rw entry at came in
       record {
-        gives = rw e (ap (λ (q : Reply). q .status) replied ∙ ap (λ (a : Answer). replyOf 0 a .status) (comes .answers));
+        gives = rw (e, replied, comes .answers) refl;
         lists-are = λ _. comes .lists-are;
         pictures-stay = comes .pictures-stay;
         refused-leaves = λ t. refused-answer 0 answer (subst TurnedDown replied t) (comes .refused-leaves);

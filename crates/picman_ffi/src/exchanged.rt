@@ -9,7 +9,9 @@ pub extern "C" fn picman_machine_load(
     registers: &mut [u32],
     image: &[u8],
 ) -> u8
-    ensures { λ r. ⌜ Loads r (now (keys .entry)) (now (rows .entry)) (now (registers .entry)) (now (image .entry)) (now (keys .exit)) (now (rows .exit)) (now (registers .exit)) ⌝ }
+    ensures { λ r.
+        ⌜ Loads r (now (keys .entry)) (now (rows .entry)) (now (registers .entry)) (now (image .entry))
+        (now (keys .exit)) (now (rows .exit)) (now (registers .exit)) ⌝ }
 {
     transfer::load(keys, rows, registers, image)
 }
@@ -22,7 +24,9 @@ pub extern "C" fn picman_machine_save(
     registers: &[u32],
     image: &mut [u8],
 ) -> u8
-    ensures { λ r. ⌜ Saves r (now (keys .entry)) (now (rows .entry)) (now (registers .entry)) (now (image .entry)) (now (image .exit)) ⌝ }
+    ensures { λ r.
+        ⌜ Saves r (now (keys .entry)) (now (rows .entry)) (now (registers .entry)) (now (image .entry))
+        (now (image .exit)) ⌝ }
 {
     transfer::save(keys, rows, registers, image)
 }

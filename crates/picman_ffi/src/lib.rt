@@ -24,7 +24,9 @@ pub extern "C" fn picman_new(image: &mut [u8]) -> u8
 // One call: the bytes of a call line, check byte too, not in hex. Writes the answer and gives its status.
 #[no_mangle]
 pub extern "C" fn picman_call(image: &mut [u8], call: &[u8], answer: &mut [u8]) -> u8
-    ensures { λ r. ⌜ Answers r (now (image .entry)) (now (call .entry)) (now (answer .entry)) (now (image .exit)) (now (answer .exit)) ⌝ }
+    ensures { λ r.
+        ⌜ Answers r (now (image .entry)) (now (call .entry)) (now (answer .entry))
+        (now (image .exit)) (now (answer .exit)) ⌝ }
 {
     images::call_image(image, call, answer)
 }

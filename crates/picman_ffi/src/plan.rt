@@ -14,7 +14,9 @@ pub extern "C" fn picman_plan(
     poc: &mut [u8],
     plan: &mut [u8],
 ) -> u8
-    ensures { λ r. ⌜ planLeft r (now (poc .exit)) (now (plan .exit)) ≡ planCalled count «gop_size» interval inter hierarchy (now (poc .entry)) (now (plan .entry)) ⌝ }
+    ensures { λ r.
+        ⌜ planLeft r (now (poc .exit)) (now (plan .exit))
+        ≡ planCalled count «gop_size» interval inter hierarchy (now (poc .entry)) (now (plan .entry)) ⌝ }
 {
     plan_picture(count, gop_size, interval, inter, hierarchy, poc, plan)
 }

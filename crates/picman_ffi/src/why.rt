@@ -8,7 +8,9 @@ ghost use Rattle.questions.specs.Asked.{whyLeft, whyOfImage, whyOfSlices};
 // Of the state of an image: 0 and the two bytes of the reason, or the refusal.
 #[no_mangle]
 pub extern "C" fn picman_why(image: &[u8], call: &[u8], slot: u8, reason: &mut [u8]) -> u8
-    ensures { λ r. ⌜ whyLeft r (now (reason .exit)) ≡ whyOfImage (now (image .entry)) (now (call .entry)) slot (now (reason .entry)) ⌝ }
+    ensures { λ r.
+        ⌜ whyLeft r (now (reason .exit))
+        ≡ whyOfImage (now (image .entry)) (now (call .entry)) slot (now (reason .entry)) ⌝ }
 {
     why_of_image(image, call, slot, reason)
 }

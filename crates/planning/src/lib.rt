@@ -57,7 +57,9 @@ fn write_both(poc: &mut [u8], plan: &mut [u8], picture: PicturePlan, after: EvcP
 
 fn show_plan(poc: &mut [u8], plan: &mut [u8], answer: PlanAnswer, after: EvcPoc) -> u8
     requires { ⌜ (length (now poc) ≡ pocWidth) × (length (now plan) ≡ planWidth) ⌝ }
-    ensures { λ r. ⌜ planLeft r (now (poc .exit)) (now (plan .exit)) ≡ shownPlan answer after (now (poc .entry)) (now (plan .entry)) ⌝ }
+    ensures { λ r.
+        ⌜ planLeft r (now (poc .exit)) (now (plan .exit))
+        ≡ shownPlan answer after (now (poc .entry)) (now (plan .entry)) ⌝ }
 {
     match answer {
         PlanAnswer::Planned(picture) => write_both(poc, plan, picture, after),
@@ -75,7 +77,9 @@ pub fn plan_picture(
     poc: &mut [u8],
     plan: &mut [u8],
 ) -> u8
-    ensures { λ r. ⌜ planLeft r (now (poc .exit)) (now (plan .exit)) ≡ planCalled count «gop_size» interval inter hierarchy (now (poc .entry)) (now (plan .entry)) ⌝ }
+    ensures { λ r.
+        ⌜ planLeft r (now (poc .exit)) (now (plan .exit))
+        ≡ planCalled count «gop_size» interval inter hierarchy (now (poc .entry)) (now (plan .entry)) ⌝ }
 {
     if poc.len() != RECORD_LENGTH {
         return refusal_number(Refusal::BadLine);

@@ -1,6 +1,6 @@
 -- What is given where something does not fit and where all does. Assumes nothing.
 use Prim.Native.Nat.{ℕ}
-use mathlib.Core.Path.{_≡_, sym, ap, _∙_}
+use mathlib.Core.Path.{_≡_, sym}
 use mathlib.Core.Bool.{Bool, true, false, _&&_}
 use mathlib.Core.List.{List, map}
 use lib.Dec.{eqb}
@@ -41,15 +41,17 @@ module _ (keys rows registers : List ℕ) (fit : sized (slices keys rows registe
   keys-fit = eqb-true (length keys) slots (and-left (eqb (length keys) slots) (eqb (length rows) rowsLength) both)
 
   pub registers-fit : length registers ≡ registersLength
-  registers-fit = eqb-true (length registers) registersLength (and-right (eqb (length keys) slots && eqb (length rows) rowsLength) (eqb (length registers) registersLength) fit)
+  registers-fit =
+      eqb-true (length registers) registersLength
+      (and-right (eqb (length keys) slots && eqb (length rows) rowsLength) (eqb (length registers) registersLength) fit)
 
 -- ---- the state that they stand for
 
 module _ (keys rows : List ℕ) {rest is : Rest} (c : RefpCall) (slot : ℕ) (same : rest ≡ is) where
   pub not-whole-why : whole (stands keys rows rest) ≡ false → WhyAnswer.Refused Refusal.StateNotWhole ≡ why (stands keys rows is) c slot
   unfolding why
-  not-whole-why w = rw (ap (λ (r : Rest). whole (stands keys rows r)) (sym same) ∙ w)
+  not-whole-why w = rw (sym same, w)
 
   pub whole-why : whole (stands keys rows rest) ≡ true → whyWhole (map (slotAt rows) keys) c slot ≡ why (stands keys rows is) c slot
   unfolding why
-  whole-why w = rw (ap (λ (r : Rest). whole (stands keys rows r)) (sym same) ∙ w)
+  whole-why w = rw (sym same, w)

@@ -25,10 +25,11 @@ asked-kept : (pm : EvcPm) (q : Question) (slot : ℕ) (reason : List ℕ) → 1 
 asked-kept pm (Question.Lists c) slot reason h = shown-kept (why pm c slot) reason h
 asked-kept pm Question.Other slot reason h = refl
 
-fits-kept : (fit : Bool) (pm : EvcPm) (line : Line) (slot : ℕ) (reason : List ℕ) → 1 ≤ ifFits fit pm line slot reason .given → ifFits fit pm line slot reason .reason ≡ reason
+fits-kept : (fit : Bool) (pm : EvcPm) (line : Line) (slot : ℕ) (reason : List ℕ)
+    → 1 ≤ ifFits fit pm line slot reason .given → ifFits fit pm line slot reason .reason ≡ reason
 fits-kept fit pm line slot reason = pick (fit && eqb (length reason) reasonLength)
   where
-    pick : (b : Bool) → 1 ≤ cond b (whyAsked pm (questionIn line) slot reason) (badWhy reason) .given → cond b (whyAsked pm (questionIn line) slot reason) (badWhy reason) .reason ≡ reason
+    pick : (b : Bool) → let x = cond b (whyAsked pm (questionIn line) slot reason) (badWhy reason) in 1 ≤ x .given → x .reason ≡ reason
     pick true h = asked-kept pm (questionIn line) slot reason h
     pick false h = refl
 

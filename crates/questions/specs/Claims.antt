@@ -7,7 +7,11 @@ use Rattle.machine.specs.Lent.{Slices}
 use Rattle.questions.specs.Asked.{whyOfImage, whyOfSlices}
 
 abbrev pub ImageWhyKept : Type 0
-ImageWhyKept = (image call : List ℕ) (slot : ℕ) (reason : List ℕ) → 1 ≤ whyOfImage image call slot reason .given → whyOfImage image call slot reason .reason ≡ reason
+ImageWhyKept =
+    (image call : List ℕ) (slot : ℕ) (reason : List ℕ) →
+    let left = whyOfImage image call slot reason in 1 ≤ left .given → left .reason ≡ reason
 
 abbrev pub SlicesWhyKept : Type 0
-SlicesWhyKept = (s : Slices) (call : List ℕ) (slot : ℕ) (reason : List ℕ) → 1 ≤ whyOfSlices s call slot reason .given → whyOfSlices s call slot reason .reason ≡ reason
+SlicesWhyKept =
+    (s : Slices) (call : List ℕ) (slot : ℕ) (reason : List ℕ) →
+    let left = whyOfSlices s call slot reason in 1 ≤ left .given → left .reason ≡ reason

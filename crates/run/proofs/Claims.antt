@@ -23,7 +23,7 @@ use Rattle.machine.proofs.Running.{new-machine}
 
 -- the bytes that a call wrote
 pub front : (out w rest : List ℕ) (n : ℕ) → out ≡ w ++ rest → n ≡ length w → take n out ≡ w
-front out w rest n e l = ap (λ (k : ℕ). take k out) l ∙ ap (take (length w)) e ∙ take-append-seam w rest
+front out w rest n e l = rw (l, e) (take-append-seam w rest)
 
 -- From any run that keeps the same of its line as the session does.
 over-writes : {keys rows written : List ℕ} {s : Session} {pieces : List (List ℕ)} → Over keys rows s pieces written

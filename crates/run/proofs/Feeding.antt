@@ -40,7 +40,7 @@ module _ (m : Machine) where
           let rest = feed (next .runner) cs in
           record { runner = rest .runner; written = next .written ++ rest .written })
           ≡ ended m (line ++ take (cond b 0 (suc (lowest isNewline cs))) (c ∷ cs)) (drop (suc (cond b 0 (suc (lowest isNewline cs)))) (c ∷ cs))
-      go true k rest = ap (λ (l : List ℕ). ended m l cs) (sym (append-nil line))
+      go true k rest = rw (append-nil line)
       go false k rest =
           rest (le-of-suc-le-suc k)
           ∙ ap (λ (l : List ℕ). ended m l (drop (suc (lowest isNewline cs)) cs)) (one-more line c (take (lowest isNewline cs) cs))

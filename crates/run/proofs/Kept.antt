@@ -35,7 +35,7 @@ alike-reads {r} {s} a = sym (kept-reads (r .line)) ∙ ap readLine (a .lines) �
 take-more : (k : ℕ) (l cs : List ℕ) → take k (take k l ++ cs) ≡ take k (l ++ cs)
 take-more zero l cs = refl
 take-more (suc k) [] cs = refl
-take-more (suc k) (x ∷ l) cs = ap (λ (t : List ℕ). x ∷ t) (take-more k l cs)
+take-more (suc k) (x ∷ l) cs = rw (take-more k l cs) refl
 
 extend-alike : {r s : Runner} (c : ℕ) → Alike r s → FedAlike (extendLine r c) (extendLine s c)
 extend-alike {r} {s} c a =
@@ -80,7 +80,7 @@ feed-alike {r} {s} (c ∷ cs) a =
 
 pub finish-alike : {r s : Runner} → Alike r s → finish r ≡ finish s
 unfolding answersTo
-finish-alike {r} {s} a = ap (λ (m : Machine). answersTo m (lastLine (r .line))) (a .machines) ∙ by (r .line) (s .line) (a .lines) (alike-reads a)
+finish-alike {r} {s} a = rw (a .machines) (by (r .line) (s .line) (a .lines) (alike-reads a))
   where
     by : (l k : List ℕ) → take keptLength l ≡ take keptLength k → readLine l ≡ readLine k
         → answersTo (s .machine) (lastLine l) ≡ answersTo (s .machine) (lastLine k)

@@ -44,4 +44,4 @@ feed-answers r (c ∷ cs) = go (eqb c newline) (feed-answers (endLine r .runner)
 pub pieces-agree : PiecesAgree
 unfolding program
 pieces-agree pieces =
-    ap (λ (f : Fed). f .written ++ finish (f .runner)) (pieces-joined start pieces) ∙ feed-answers start (joined pieces)
+    rw (pieces-joined start pieces) (feed-answers start (joined pieces))

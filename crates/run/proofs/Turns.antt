@@ -38,7 +38,7 @@ begin m line piece out r =
     record { at-fits = omega arith; len-fits = omega arith; room = r; out-size = refl; behind = refl; rest = refl }
 
 after-after : (x y : List ℕ) (f : Fed) → after x (after y f) ≡ after (x ++ y) f
-after-after x y f = ap (λ (w : List ℕ). record { runner = f .runner; written = w }) (sym (append-assoc x y (f .written)))
+after-after x y f = rw (append-assoc x y (f .written)) refl
 
 -- From line to line: the line that ends at the next newline is read, one call is made, and its answer stands behind the others.
 module _ {from : Runner} {piece before : List ℕ} {m : Machine} {line : List ℕ} {at len : ℕ} {out : List ℕ}

@@ -28,10 +28,10 @@ module _ {made : Made} {s : Scalars} (call : Call) {keys rows keys′ rows′ : 
   before = slices keys rows registers
 
   replies : made .reply ≡ step (machineAt before) call .reply
-  replies = makes .replies ∙ ap (λ (q : Scalars). step (machineIn keys rows q) call .reply) read
+  replies = rw read at (makes .replies)
 
   machine-is : machineIn keys′ rows′ (made .scalars) ≡ step (machineAt before) call .machine
-  machine-is = makes .machine-is ∙ ap (λ (q : Scalars). step (machineIn keys rows q) call .machine) read
+  machine-is = rw read at (makes .machine-is)
 
   -- one that is turned down, with the registers as they were
   pub call-refused : TurnedDown (made .reply) → CallLeaves (made .reply) call before (slices keys′ rows′ registers)

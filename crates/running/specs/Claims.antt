@@ -1,4 +1,5 @@
--- What holds of the slices apart from any function: a wrong size is answered with 18, and a state that is not whole with 7. The proofs stand in proofs/Claims.antt.
+-- What holds of the slices apart from any function: a wrong size is answered with 18, and a state that is not whole with 7. The proofs
+-- stand in proofs/Claims.antt.
 -- Assumes nothing.
 use mathlib.Core.Path.{_≡_}
 use mathlib.Core.Bool.{true, false}

@@ -71,7 +71,7 @@ module _ (keys rows registers : List ℕ) where
           → (keys′ rows′ registers′ : List ℕ) (s : Scalars) → TakenMachine m keys′ rows′ s → restOf registers′ ≡ s .rest → pocOf registers′ ≡ s .poc
           → Loads 0 keys rows registers image keys′ rows′ registers′
       load-done m e w keys′ rows′ registers′ s taken f g =
-          let found : whole (machineOf image .pm) ≡ true = ap (λ (n : Machine). whole (n .pm)) (sym e) ∙ w in
+          let found : whole (machineOf image .pm) ≡ true = rw e at w in
           record {
             given = rw (fit, is, found);
             loaded = λ z. scalars-at keys′ rows′ registers′ s f g ∙ same-machine taken w ∙ e;

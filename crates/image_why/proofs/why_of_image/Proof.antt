@@ -24,7 +24,8 @@ returns : tie.Need-returns
 unfolding whyOfImage
 returns c =
     let s = c .before .before .before .before .before in
-    no-fit _ (pmOf (s .args .image .now)) (callFrom (s .args .call .now)) (s .args .slot) (s .args .reason .now) (sym (c .before .is-image .ensures) ∙ not-true _ (c .if1 .taken))
+    no-fit _ (pmOf (s .args .image .now)) (callFrom (s .args .call .now)) (s .args .slot) (s .args .reason .now)
+    (sym (c .before .is-image .ensures) ∙ not-true _ (c .if1 .taken))
 
 returns-2 : tie.Need-returns-2
 unfolding whyOfImage

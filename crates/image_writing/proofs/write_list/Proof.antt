@@ -58,7 +58,8 @@ returns : tie.Need-returns Inv-loop μ-loop
 unfolding listBytes
 returns c =
     let start = c .before .before .before in
-    storing-end wordBytes wordWidth (start .args .image .now) (start .args .at) (start .args .t3) listPlaces (list-size start) (c .loop-test .left) (c .before .loop .inv)
+    storing-end wordBytes wordWidth (start .args .image .now) (start .args .at) (start .args .t3) listPlaces (list-size start)
+    (c .loop-test .left) (c .before .loop .inv)
 
 pub write-list-spec : {M : Type 1} → statement M
 write-list-spec =

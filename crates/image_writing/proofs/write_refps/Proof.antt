@@ -56,7 +56,8 @@ same-length c = search needs
 returns : tie.Need-returns Inv-loop μ-loop
 returns c =
     let start = c .before .before .before in
-    storing-end refpBytes refpWidth (start .args .image .now) refpPlace (start .args .t2) (2 * listPlaces) (row-size start) (c .loop-test .left) (c .before .loop .inv)
+    storing-end refpBytes refpWidth (start .args .image .now) refpPlace (start .args .t2) (2 * listPlaces) (row-size start)
+    (c .loop-test .left) (c .before .loop .inv)
 
 pub write-refps-spec : {M : Type 1} → statement M
 write-refps-spec =

@@ -43,8 +43,8 @@ front-stored c =
     (stored-one (pm .«num_refp_1») refl))
     (c .write-word .ensures)
 
-scalars-stored : (c : tie.After-write-word)
-    → Stored (start c .args .image .now) scalarsPlace (scalarBytes (start c .args .pm)) 11 (set (c .write-word .last .0) 2614 (start c .args .pm .«poc_increase»))
+scalars-stored : (c : tie.After-write-word) → let a = start c .args in
+    Stored (a .image .now) scalarsPlace (scalarBytes (a .pm)) 11 (set (c .write-word .last .0) 2614 (a .pm .«poc_increase»))
 unfolding scalarBytes
 scalars-stored c = stored-then (front-stored c) (stored-one (start c .args .pm .«poc_increase») refl)
 

@@ -17,14 +17,18 @@ use Rattle.image_writing.proofs.write_slot.Tie as tie
 abbrev front : Slot → List ℕ
 front s = flagByte (s .present) ∷ s .buf ∷ flagByte (s .pic .«is_ref») ∷ flagByte (s .pic .«need_for_out») ∷ s .pic .«temporal_id» ∷ wordBytes (s .pic .poc)
 
+-- where the last flag had its byte, and where this began
+abbrev flagged : tie.After-write-word → tie.After-flag-byte3
+flagged c = c .before .before
+
 abbrev start : tie.After-write-word → tie.Start
-start c = c .before .before .before .before .before .before .before .before
+start c = let present = flagged c .before .before in present .before .before .before .before
 
 -- after the number, and after the list
 front-stored : (c : tie.After-write-word) → Stored (start c .args .image .now) (start c .args .at) (front (start c .args .s)) 9 (c .write-word .last .0)
 front-stored c =
     let s = start c .args .s in
-    let wanted = c .before .before in
+    let wanted = flagged c in
     let marked = wanted .before in
     stored-then
     (stored-then

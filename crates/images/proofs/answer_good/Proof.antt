@@ -32,7 +32,9 @@ returns c =
     let answer-written = c .before .before in
     let machine-written = answer-written .before .before .before .before in
     let done = machine-written .before .before .before .before in
-    let e = done .step .ensures ∙ ap (λ (m : Machine). step m (done .before .before .before .before .before .args .call)) (done .before .read-machine .ensures) in (
+    let read = done .before in
+    let call = read .before .before .before .before .args .call in
+    let e = done .step .ensures ∙ ap (λ (m : Machine). step m call) (read .read-machine .ensures) in (
       rw (answer-written .write-answer .ensures, machine-written .write-machine .ensures .0, e),
       subst (λ (s : Stepped). ImageHolds (machine-written .write-machine .last .0) (s .machine)) e (machine-written .write-machine .ensures .1),
     )

@@ -28,19 +28,24 @@ unfolding called
 called-line image call answer l e f g = rw (e, eq-eqb (length answer) answerLength f, g)
 
 -- what the image holds, by what the call is
-holds-line : (m : Machine) (call : List ℕ) {bs : List ℕ} {l : Line} → callFrom call ≡ l → ImageHolds bs (stepLine m l .machine) → ImageHolds bs (stepLine m (callFrom call) .machine)
+holds-line : (m : Machine) (call : List ℕ) {bs : List ℕ} {l : Line} → callFrom call ≡ l
+    → ImageHolds bs (stepLine m l .machine) → ImageHolds bs (stepLine m (callFrom call) .machine)
 holds-line m call {bs} e h = subst (λ (k : Line). ImageHolds bs (stepLine m k .machine)) (sym e) h
 
-answers : (r : ℕ) (image call answer image′ answer′ : List ℕ) → Bytes image → answered r image′ answer′ ≡ called image call answer
+answers : {r : ℕ} {image call answer image′ answer′ : List ℕ} → Bytes image → answered r image′ answer′ ≡ called image call answer
     → (isImage image ≡ true → length answer ≡ answerLength → ImageHolds image′ (stepLine (machineOf image) (callFrom call) .machine))
     → Answers r image call answer image′ answer′
-answers r image call answer image′ answer′ bytes e h = record { given = e; holds = h; kept = answered-kept e (call-kept image bytes call answer) }
+answers {image = image} {call} {answer} bytes e h = record { given = e; holds = h; kept = answered-kept e (call-kept image bytes call answer) }
+
+-- where the image that was lent was known, before it was tested
+abbrev known : tie.After-is-image → tie.After-slice-known
+known c = c .before .before .before .before
 
 -- the image that came is made of bytes
 bytes : (c : tie.After-slice-known) → Bytes (c .before .args .image .now)
 bytes c = record { each = λ i. omega (arith, c .slice-known .given i) }
 
-an-image : (c : tie.Else1) → isImage (c .before .before .before .before .before .before .args .image .now) ≡ true
+an-image : (c : tie.Else1) → isImage (known (c .before) .before .args .image .now) ≡ true
 an-image c = sym (c .before .is-image .ensures) ∙ not-false _ (c .if1 .left)
 
 is-image-requires : tie.Need-is-image-requires
@@ -53,7 +58,7 @@ returns : tie.Need-returns
 unfolding called
 returns c =
     let e = sym (c .before .is-image .ensures) ∙ not-true _ (c .if1 .taken) in
-    answers _ _ _ _ _ _ (bytes (c .before .before .before .before .before)) (rw e) (λ f _. absurd (true≢false (sym f ∙ e)))
+    answers (bytes (known (c .before))) (rw e) (λ f _. absurd (true≢false (sym f ∙ e)))
 
 same-length-2 : tie.Need-same-length-2
 same-length-2 c = search needs
@@ -61,8 +66,9 @@ same-length-2 c = search needs
 returns-2 : tie.Need-returns-2
 unfolding called
 returns-2 c =
-    let known = c .before .before .before .before .before .before in
-    answers _ _ _ _ _ _ (bytes known) (rw (an-image (c .before), ne-eqb (length (known .before .args .answer .now)) answerLength (c .if2 .taken))) (λ _ f. absurd (c .if2 .taken f))
+    let lent = known (c .before .before) in
+    let short = ne-eqb (length (lent .before .args .answer .now)) answerLength (c .if2 .taken) in
+    answers (bytes lent) (rw (an-image (c .before), short)) (λ _ f. absurd (c .if2 .taken f))
 
 read-call-requires : tie.Need-read-call-requires
 read-call-requires c κs = search needs
@@ -72,8 +78,9 @@ enum-known-line c = search needs
 
 answer-good-requires : tie.Need-answer-good-requires
 answer-good-requires c κs =
-    let s = c .before .before .before .before .before .before in
-    (image-long _ (an-image (s .before)), s .if2 .left)
+    let told = c .before .before .before in
+    let tested = told .before .before .before in
+    (image-long _ (an-image (tested .before)), tested .if2 .left)
 
 enum-told : tie.Need-enum-told
 enum-told c = search needs
@@ -94,7 +101,7 @@ returns-3 c =
     let told = answered .before .before .before .before in
     let tested = told .before .before .before in
     let e = sym (told .before .before .read-call .ensures) ∙ told .line .given .1 in
-    answers _ _ _ _ _ _ (bytes (tested .before .before .before .before .before .before))
+    answers (bytes (known (tested .before .before)))
     (answered .answer-good .ensures .0 ∙ sym (called-line _ _ _ _ (an-image (tested .before)) (tested .if2 .left) e))
     (λ _ _. holds-line _ _ e (answered .answer-good .ensures .1))
 
@@ -111,7 +118,7 @@ returns-4 c =
     let told = answered .before .before in
     let tested = told .before .before .before in
     let e = sym (told .before .before .read-call .ensures) ∙ told .enum-told .given .1 in
-    answers _ _ _ _ _ _ (bytes (tested .before .before .before .before .before .before))
+    answers (bytes (known (tested .before .before)))
     (rw (answered .answer-bad .ensures .0, answered .answer-bad .ensures .1) (sym (called-line _ _ _ _ (an-image (tested .before)) (tested .if2 .left) e)))
     (λ f _. holds-line _ _ e (record { image = f; machine = refl }))
 

@@ -38,7 +38,11 @@ returns-2 c =
     let made = written .before .before in
     let long = made .before in
     renews _ _ _
-    (rw (eq-eqb (length (long .before .before .args .image .now)) imageLength (long .if1 .left), written .write-machine .ensures .0, made .new-machine .ensures))
+    (rw (
+      eq-eqb (length (long .before .before .args .image .now)) imageLength (long .if1 .left),
+      written .write-machine .ensures .0,
+      made .new-machine .ensures,
+    ))
     (λ _. subst (ImageHolds (written .write-machine .last .0)) (made .new-machine .ensures) (written .write-machine .ensures .1))
 
 pub renew-image-spec : {M : Type 1} → statement M

@@ -1,7 +1,4 @@
 -- `machine_why::ask_slices` meets its contract: the answer is shown. Assumes nothing.
-use mathlib.Core.Path.{ap, _∙_}
-use Rattle.reasons.specs.declared.{WhyAnswer.WhyAnswer}
-use Rattle.questions.specs.Asked.{shownWhy}
 use borrow.Author.Needs.{needs}
 use Rattle.machine_why.proofs.ask_slices.Statement.{statement}
 use Rattle.machine_why.proofs.ask_slices.Tie as tie
@@ -19,8 +16,7 @@ returns : tie.Need-returns
 returns c rows =
     let shown = c .before .before in
     let told = shown .before in
-    let s = told .before .before .before .before .before in
-    shown .show-why .ensures ∙ ap (λ (a : WhyAnswer). shownWhy a (s .args .reason .now)) (told .slices-answer .ensures rows)
+    rw (shown .show-why .ensures, told .slices-answer .ensures rows)
 
 pub ask-slices-spec : {M : Type 1} → statement M
 ask-slices-spec = tie.close (tie.spec slices-answer-requires show-why-requires same-length returns)

@@ -21,7 +21,8 @@ low c = search needs
 all-fit : (c : tie.Else1) → fits (start c .args .rows .now) (start c .args .present) (start c .args .list-poc .now) ≡ true
 all-fit c = sym (c .before .is-fit .ensures) ∙ not-false _ (c .if1 .left)
 
-both-long : (c : tie.Else1) → (length (start c .args .rows .now) ≡ rowsLength) × (length (start c .args .list-poc .now) ≡ listPlaces) × (start c .args .present < 2)
+both-long : (c : tie.Else1) → let a = start c .args in
+    (length (a .rows .now) ≡ rowsLength) × (length (a .list-poc .now) ≡ listPlaces) × (a .present < 2)
 both-long c = let a = start c .args in fitting (a .rows .now) (a .present) (a .list-poc .now) (all-fit c)
 
 is-fit-requires : tie.Need-is-fit-requires
@@ -57,7 +58,8 @@ returns-2 c =
     let made = headed .before in
     let left = made .before in
     let a = start left .args in
-    placed (a .rows .now) (a .list-poc .now) (a .cnt) (a .lidx) (a .present) (a .buf) (a .poc) (all-fit left) (low (start left)) (headed .head-from .ensures) (made .numbers-of .ensures) (copied .copy-refp .ensures) (c .reply-of .ensures)
+    placed (a .rows .now) (a .list-poc .now) (a .cnt) (a .lidx) (a .present) (a .buf) (a .poc) (all-fit left) (low (start left))
+    (headed .head-from .ensures) (made .numbers-of .ensures) (copied .copy-refp .ensures) (c .reply-of .ensures)
 
 pub place-entry-spec : {M : Type 1} → statement M
 place-entry-spec =

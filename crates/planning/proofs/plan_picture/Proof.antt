@@ -39,7 +39,11 @@ returns-2 c =
     let short = c .before in
     let long = short .before in
     let s = long .before .before .before in
-    rw (eq-eqb (length (s .args .poc .now)) pocWidth (long .if1 .left), ne-eqb (length (s .args .plan .now)) planWidth (short .if2 .taken), c .refusal-number2 .ensures)
+    rw (
+      eq-eqb (length (s .args .poc .now)) pocWidth (long .if1 .left),
+      ne-eqb (length (s .args .plan .now)) planWidth (short .if2 .taken),
+      c .refusal-number2 .ensures,
+    )
 
 refusal-number-requires-3 : tie.Need-refusal-number-requires-3
 refusal-number-requires-3 c κs = search needs
@@ -51,7 +55,12 @@ returns-3 c =
     let fits = above .before in
     let long = fits .before in
     let s = long .before .before .before in
-    rw (eq-eqb (length (s .args .poc .now)) pocWidth (long .if1 .left), eq-eqb (length (s .args .plan .now)) planWidth (fits .if2 .left), lt-leb (s .args .hierarchy) 1 (above .if3 .taken), c .refusal-number3 .ensures)
+    rw (
+      eq-eqb (length (s .args .poc .now)) pocWidth (long .if1 .left),
+      eq-eqb (length (s .args .plan .now)) planWidth (fits .if2 .left),
+      lt-leb (s .args .hierarchy) 1 (above .if3 .taken),
+      c .refusal-number3 .ensures,
+    )
 
 read-poc-at-requires : tie.Need-read-poc-at-requires
 read-poc-at-requires c κs = search needs
@@ -77,9 +86,12 @@ returns-4 c =
     let fits = flag .before in
     let long = fits .before in
     let s = long .before .before .before in
-    let e = decided .decide-normal-gop .ensures ∙ ap (plan (s .args .count) (s .args .gop-size) (s .args .interval) (s .args .inter) (eqb (s .args .hierarchy) 1)) (read .read-poc-at .ensures) in
+    let a = s .args in
+    let planned = plan (a .count) (a .gop-size) (a .interval) (a .inter) (eqb (a .hierarchy) 1) in
+    let e = decided .decide-normal-gop .ensures ∙ ap planned (read .read-poc-at .ensures) in
     shown .show-plan .ensures
-    ∙ passed (s .args .count) (s .args .gop-size) (s .args .interval) (s .args .inter) (s .args .hierarchy) (s .args .poc .now) (s .args .plan .now) (long .if1 .left) (fits .if2 .left) (flag .if3 .left) e
+    ∙ passed (a .count) (a .gop-size) (a .interval) (a .inter) (a .hierarchy) (a .poc .now) (a .plan .now)
+    (long .if1 .left) (fits .if2 .left) (flag .if3 .left) e
 
 pub plan-picture-spec : {M : Type 1} → statement M
 plan-picture-spec =

@@ -1,8 +1,5 @@
 -- `planning::show_plan` meets its contract: each arm is told what was planned.
 -- Assumes nothing.
-use mathlib.Core.Path.{sym, ap, _∙_}
-use Rattle.gop.specs.declared.PlanAnswer.{PlanAnswer}
-use Rattle.planning.specs.Planned.{planLeft, shownPlan}
 use borrow.Author.Needs.{needs}
 use Rattle.planning.proofs.show_plan.Statement.{statement}
 use Rattle.planning.proofs.show_plan.Tie as tie
@@ -29,16 +26,12 @@ returns : tie.Need-returns
 returns c =
     let written = c .before .before .before .before in
     let known = written .before .before .before .before in
-    let s = known .before .before .before .before in
-    written .write-both .ensures
-    ∙ sym (ap (λ (a : PlanAnswer). shownPlan a (s .args .after) (s .args .poc .now) (s .args .plan .now)) (known .answer .given .1))
+    rw (known .answer .given .1) (written .write-both .ensures)
 
 returns-2 : tie.Need-returns-2
 returns-2 c =
     let known = c .before .before in
-    let s = known .before .before .before .before in
-    ap (λ n. planLeft n (s .args .poc .now) (s .args .plan .now)) (c .refusal-number .ensures)
-    ∙ sym (ap (λ (a : PlanAnswer). shownPlan a (s .args .after) (s .args .poc .now) (s .args .plan .now)) (known .answer2 .given .1))
+    rw (c .refusal-number .ensures, known .answer2 .given .1)
 
 pub show-plan-spec : {M : Type 1} → statement M
 show-plan-spec =

@@ -13,17 +13,23 @@ use borrow.Author.Needs.{needs}
 use Rattle.planning.proofs.write_plan.Statement.{statement}
 use Rattle.planning.proofs.write_plan.Tie as tie
 
+abbrev flagged : tie.After-write-signed → tie.After-flag-byte
+flagged c = c .before .before
+
 abbrev start : tie.After-write-signed → tie.Start
-start c = c .before .before .before .before .before .before
+start c = flagged c .before .before .before .before
 
 all-stored : (c : tie.After-write-signed) → Stored (start c .args .plan .now) 0 (planBytes (start c .args .picture)) planWidth (c .write-signed .last .0)
 all-stored c =
-    let flagged = c .before .before in
+    let typed = flagged c .before in
     let picture = start c .args .picture in
-    let e : toZ w32 (ofZ w32 (picture .«poc_val» .0)) ≡ picture .«poc_val» .0 = let fields = flagged .before .before .struct-told .given in search needs in
+    let e : toZ w32 (ofZ w32 (picture .«poc_val» .0)) ≡ picture .«poc_val» .0 = let fields = typed .before .struct-told .given in search needs in
     stored-then
-    (stored-then (stored-then (stored-one (sliceByte (picture .«slice_type»)) (flagged .before .slice-byte .ensures)) (stored-one (picture .«slice_depth») refl))
-    (stored-one (flagByte (picture .«slice_ref_flag»)) (flagged .flag-byte .ensures)))
+    (stored-then
+    (stored-then
+    (stored-one (sliceByte (picture .«slice_type»)) (typed .slice-byte .ensures))
+    (stored-one (picture .«slice_depth») refl))
+    (stored-one (flagByte (picture .«slice_ref_flag»)) (flagged c .flag-byte .ensures)))
     (rw e at (c .write-signed .ensures))
 
 slice-byte-requires : tie.Need-slice-byte-requires

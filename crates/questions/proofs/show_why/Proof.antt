@@ -1,7 +1,4 @@
 -- `questions::show_why` meets its contract: each arm is told what the answer is. Assumes nothing.
-use mathlib.Core.Path.{sym, ap, _∙_}
-use Rattle.reasons.specs.declared.{WhyAnswer.WhyAnswer}
-use Rattle.questions.specs.Asked.{whyLeft, shownWhy}
 use borrow.Author.Needs.{needs}
 use Rattle.questions.proofs.show_why.Statement.{statement}
 use Rattle.questions.proofs.show_why.Tie as tie
@@ -25,15 +22,12 @@ returns : tie.Need-returns
 returns c =
     let written = c .before .before in
     let known = written .before .before .before in
-    let s = known .before .before .before in
-    written .write-reason .ensures ∙ sym (ap (λ (a : WhyAnswer). shownWhy a (s .args .reason .now)) (known .answer .given .1))
+    rw (known .answer .given .1) (written .write-reason .ensures)
 
 returns-2 : tie.Need-returns-2
 returns-2 c =
     let known = c .before .before in
-    let s = known .before .before .before in
-    ap (λ n. whyLeft n (s .args .reason .now)) (c .refusal-number .ensures)
-    ∙ sym (ap (λ (a : WhyAnswer). shownWhy a (s .args .reason .now)) (known .answer2 .given .1))
+    rw (c .refusal-number .ensures, known .answer2 .given .1)
 
 pub show-why-spec : {M : Type 1} → statement M
 show-why-spec =

@@ -25,8 +25,10 @@ returns : tie.Need-returns
 returns c =
     let numbered = c .before in
     let s = numbered .before .before in
-    ap (whyLeft 0)
-    (stored-whole {bs = s .args .reason .now} (stored-then (stored-one (reasonNumber (s .args .told)) (numbered .reason-number .ensures)) (stored-one (placeTold (s .args .told)) (c .place-told .ensures))) (s .pre))
+    let told = s .args .told in
+    let number = stored-one (reasonNumber told) (numbered .reason-number .ensures) in
+    let place = stored-one (placeTold told) (c .place-told .ensures) in
+    ap (whyLeft 0) (stored-whole {bs = s .args .reason .now} (stored-then number place) (s .pre))
 
 pub write-reason-spec : {M : Type 1} → statement M
 write-reason-spec =

@@ -34,7 +34,15 @@ returns c =
     let offset = c .before in
     let previous = offset .before in
     let number = previous .before in
-    rw (toZ-ofZ w32 (number .signed-of .result) (record { sfits = number .signed-of .ok }), toZ-ofZ w32 (c .signed-of2 .result) (record { sfits = c .signed-of2 .ok }), c .signed-of2 .ensures, offset .read-word3 .ensures, previous .read-word2 .ensures, number .signed-of .ensures, number .before .read-word .ensures)
+    rw (
+      toZ-ofZ w32 (number .signed-of .result) (record { sfits = number .signed-of .ok }),
+      toZ-ofZ w32 (c .signed-of2 .result) (record { sfits = c .signed-of2 .ok }),
+      c .signed-of2 .ensures,
+      offset .read-word3 .ensures,
+      previous .read-word2 .ensures,
+      number .signed-of .ensures,
+      number .before .read-word .ensures,
+    )
 
 pub read-poc-at-spec : {M : Type 1} → statement M
 read-poc-at-spec =

@@ -18,7 +18,8 @@ use Rattle.records.proofs.write_poc_at.Statement.{statement}
 use Rattle.records.proofs.write_poc_at.Tie as tie
 
 -- what the machine reads of a field's bits is the field
-same : {bs after : List ℕ} {i : ℕ} (z : ℤ) → mag z < 2 ^ 31 → Stored bs i (wordBytes (twosComplement (toZ w32 (ofZ w32 z)))) 4 after → Stored bs i (wordBytes (twosComplement z)) 4 after
+same : {bs after : List ℕ} {i : ℕ} (z : ℤ) → mag z < 2 ^ 31
+    → Stored bs i (wordBytes (twosComplement (toZ w32 (ofZ w32 z)))) 4 after → Stored bs i (wordBytes (twosComplement z)) 4 after
 same {bs} {after} {i} z h p =
     subst (λ (n : ℕ). Stored bs i (wordBytes n) 4 after) (ap twosComplement (toZ-ofZ w32 z (record { sfits = h }))) p
 
@@ -56,8 +57,9 @@ returns c =
     let s = told .before .before in
     let poc = s .args .poc in
     let fields = told .struct-told .given in
-    stored-then (same (poc .«poc_val» .0) (fields .0 .1 .1 .0 .1) (first .write-signed .ensures))
-    (stored-then (middle .write-word .ensures) (placed (s .args .at) (same (poc .«prev_doc_offset» .0) (fields .1 .1 .0 .1 .1 .0 .1) (last .write-signed2 .ensures))))
+    let number = same (poc .«poc_val» .0) (fields .0 .1 .1 .0 .1) (first .write-signed .ensures) in
+    let offset = same (poc .«prev_doc_offset» .0) (fields .1 .1 .0 .1 .1 .0 .1) (last .write-signed2 .ensures) in
+    stored-then number (stored-then (middle .write-word .ensures) (placed (s .args .at) offset))
 
 pub write-poc-at-spec : {M : Type 1} → statement M
 write-poc-at-spec =

@@ -46,7 +46,8 @@ returns-2 c =
     let keys = rows .before .before .before .before in
     let left = keys .before .before in
     let tested = left .before in
-    renewed (sym (tested .is-sized .ensures) ∙ not-false _ (left .if1 .left)) (keys .clear-keys .ensures) (rows .clear-numbers .ensures) (registers .clear-numbers2 .ensures)
+    renewed (sym (tested .is-sized .ensures) ∙ not-false _ (left .if1 .left))
+    (keys .clear-keys .ensures) (rows .clear-numbers .ensures) (registers .clear-numbers2 .ensures)
 
 pub renew-spec : {M : Type 1} → statement M
 renew-spec =

@@ -152,7 +152,7 @@ returns c =
     record {
       written = all-written g none;
       length-is = written-length g none;
-      machine = sym (ap (λ (x : Fed). x .runner .machine) (stopped-there g none));
+      machine = rw (stopped-there g none) refl;
       line =
           c .extended .ensures .0
           ∙ ap (λ (x : List ℕ). take keptLength (heldLine (l .partial) ++ x))

@@ -53,7 +53,7 @@ returns-2 c =
     record {
       ends = sym (lt-ltb (lineEnd (s .args .piece .now) (s .args .at)) _ (omega arith));
       says = λ t. c .read-with .ensures ∙ ap (λ (k : ℕ). readLine (heldLine (s .args .partial) ++ take k (drop (s .args .at) (s .args .piece .now)))) n;
-      behind = λ t. ap (λ (k : ℕ). k + 1) e;
+      behind = λ t. rw e;
     }
 
 pub searched-line-spec : {M : Type 1} → statement M

@@ -52,7 +52,8 @@ same-length-7 c = search needs
 returns-3 : tie.Need-returns-3
 returns-3 c =
     let written = c .before .before in
-    let replied = written .before .before .before .before .before .before .before .before in
+    let rows-back = written .before .before .before .before in
+    let replied = rows-back .before .before .before .before in
     let read = replied .before in
     let left = read .before .before .before .before in
     let tested = left .before in

@@ -22,7 +22,10 @@ returns : tie.Need-returns
 returns c =
     let pasted = c .before .before in
     let made = pasted .before .before .before in
-    pasted .paste .ensures ∙ paste-all 8 (made .before .before .args .answer .now) (made .answer-bytes .result) (made .before .before .pre) (search needs) ∙ made .answer-bytes .ensures
+    let s = made .before .before in
+    pasted .paste .ensures
+    ∙ paste-all 8 (s .args .answer .now) (made .answer-bytes .result) (s .pre) (search needs)
+    ∙ made .answer-bytes .ensures
 
 pub write-answer-spec : {M : Type 1} → statement M
 write-answer-spec =

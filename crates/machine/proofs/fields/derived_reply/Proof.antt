@@ -23,9 +23,10 @@ refusal-number-requires c κs = search needs
 
 returns : tie.Need-returns
 returns c =
-    let n = c .before .before .before .answer .given .0 .0 .0 in
+    let told = c .before .before .before in
+    let n = told .answer .given .0 .0 .0 in
     let e : toZ w32 (ofZ w32 n) ≡ n = search needs in
-    ap (λ (v : ℕ). reply 6 0 noBuffer v) (c .twos-complement .ensures ∙ ap twosComplement e) ∙ sym (ap (derivedReply 6) (c .before .before .before .answer .given .1))
+    ap (reply 6 0 noBuffer) (c .twos-complement .ensures ∙ ap twosComplement e) ∙ sym (ap (derivedReply 6) (told .answer .given .1))
 
 returns-2 : tie.Need-returns-2
 returns-2 c =

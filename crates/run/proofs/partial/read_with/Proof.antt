@@ -1,9 +1,6 @@
 -- `run::partial::read_with` meets its contract: the characters that are kept say what the whole line says.
 -- Assumes nothing.
-use Prim.Native.Nat.{ℕ}
-use mathlib.Core.Path.{sym, ap, _∙_}
-use mathlib.Core.List.{_++_}
-use lib.ListN.{take}
+use mathlib.Core.Path.{ap, _∙_}
 use borrow.Author.Needs.{needs}
 use Rattle.line.specs.Calls.{readLine}
 use Rattle.run.proofs.PartialLaws.{kept-reads}
@@ -15,8 +12,7 @@ read-line-requires c κs = search needs
 
 returns : tie.Need-returns
 returns c =
-    let a = c .before .before .before .before .args in
-    c .read-line .ensures ∙ sym (ap (λ (n : ℕ). readLine (take n (a .partial .bytes) ++ a .part .now)) (c .before .if1 .taken))
+    rw (c .before .if1 .taken) (c .read-line .ensures)
 
 extended-requires : tie.Need-extended-requires
 extended-requires c κs = search needs
