@@ -1,6 +1,6 @@
 -- Flags of the buffer numbers that keys hold: a loop that sets them, and the lowest that is not set is the smallest number that none holds.
 -- Assumes nothing.
-use mathlib.Core.Path.{_≡_, refl, sym, ap, _∙_}
+use mathlib.Core.Path.{_≡_, refl, sym, _∙_}
 use mathlib.Core.Bool.{Bool, true, false, cond, not, _||_, or-true, or-false}
 use mathlib.Core.Bool as Bool
 use mathlib.Core.List.{List, _∷_, map}
@@ -22,11 +22,11 @@ flag-set : (flags : List Bool) (n b : ℕ) (v : Bool) → n < length flags → g
 flag-set flags n b v h = pick (eqb b n) refl
   where
     pick : (t : Bool) → eqb b n ≡ t → getD (set flags n v) b false ≡ cond t v (getD flags b false)
-    pick true e = ap (λ (k : ℕ). getD (set flags n v) k false) (eqb-true b n e) ∙ getD-set-same flags n v false h
+    pick true e = rw (eqb-true b n e) (getD-set-same flags n v false h)
     pick false e = getD-set-other flags n b v false (eqb-false b n e)
 
 flags-or : (t x y r : Bool) → (cond t (x || true) y || r) ≡ (y || (t || r))
-flags-or true x y r = ap (λ (a : Bool). a || r) (or-true x) ∙ sym (or-true y)
+flags-or true x y r = rw (or-true x) (sym (or-true y))
 flags-or false x y r = refl
 
 -- The first key's buffer number is flagged if a picture is there, and the rest is left.

@@ -76,8 +76,8 @@ module _ (rows : List ℕ) (b : ℕ) (ns : List ℕ) (n : ℕ) (long : length ro
 pub row-turn : (rows row : List ℕ) (at j : ℕ) → at + 21 ≤ length rows → j < 21 → length row ≡ 21 → take j row ≡ take j (drop at rows)
     → take (j + 1) (set row j (getD rows (at + j) 0)) ≡ take (j + 1) (drop at rows)
 row-turn rows row at j h k l e =
-    ap (λ (v : ℕ). take (j + 1) (set row j v)) (sym (getD-drop at rows j 0))
-    ∙ copy-turn 0 (drop at rows) row j (omega (arith, length-drop at rows)) (omega arith) e
+    rw (← getD-drop at rows j 0)
+    (copy-turn 0 (drop at rows) row j (omega (arith, length-drop at rows)) (omega arith) e)
 
 pub row-read : (rows row : List ℕ) (b j : ℕ) → 21 ≤ j → j ≤ 21 → length row ≡ 21 → take j row ≡ take j (drop (21 * b) rows) → row ≡ rowAt rows b
 unfolding rowAt
@@ -101,10 +101,10 @@ module _ (before : List ℕ) (at : ℕ) (ns : List ℕ) (n : ℕ) where
     within = omega arith;
     long = length-set rows (at + j) v ∙ p .long;
     so-far =
-        ap (λ (d : List ℕ). set d (at + j) v) (p .so-far)
-        ∙ ap (set (paste before at ns j) (at + j)) e
+        rw (p .so-far)
+        (ap (set (paste before at ns j) (at + j)) e
         ∙ paste-suc before at ns j 0 (omega arith) (omega arith)
-        ∙ ap (paste before at ns) (sym (add-one j));
+        ∙ ap (paste before at ns) (sym (add-one j)));
   }
 
   pub pasting-end : (j : ℕ) (rows : List ℕ) → Pasting before at ns n j rows → n ≤ j → rows ≡ paste before at ns n

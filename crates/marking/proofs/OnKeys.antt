@@ -19,7 +19,7 @@ use Rattle.def.specs.declared.Slot.{Slot}
 use Rattle.def.specs.State.{slots, noSlot, isMarked, unmarked}
 use Rattle.keys.specs.Keys.{keyMarked, keyUnmarked, slotAt}
 use Rattle.keys.proofs.KeyLaws.{slot-unmarked}
-use Rattle.marking.specs.Marking.{lastSlot, mostMarked, outdated, swept, sweep, excess, unmarkFirst, noteFirst, lastWalk, slide, marked}
+use Rattle.marking.specs.Marking.{lastSlot, mostMarked, outdated, swept, sweep, excess, lastWalk, slide, marked}
 use Rattle.marking.specs.OnKeys.{keyOutdated, Picks, flagged, keySweep, Unmarks, Walked, Marks}
 use Rattle.marking.proofs.Steps.{Noted, noted-yes, noted-no, walk-step}
 use Rattle.marking.proofs.Limits.{slide-none, slide-count}

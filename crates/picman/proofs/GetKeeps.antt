@@ -75,10 +75,9 @@ module _ (pm : EvcPm) (w : whole pm ≡ true) (size : length (pm .pic) ≡ slots
 
         not-marked : isMarked taken ≡ false
         not-marked =
-            ap (λ (r : Bool). taken .present && r)
-            (not-true (taken .pic .«is_ref»)
+            rw (not-true (taken .pic .«is_ref»)
             (and-left (not (taken .pic .«is_ref»)) (not (taken .pic .«need_for_out»)) (and-right (taken .present) rest is-idle)))
-            ∙ and-false (taken .present)
+            (and-false (taken .present))
 
   -- ---- a new picture is made
 

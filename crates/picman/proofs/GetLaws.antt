@@ -1,7 +1,7 @@
 -- What every get answers: one of five cases, in the order of its refusals, each refusal under its condition; a get that is turned down changes nothing.
 -- Assumes nothing.
 use Prim.Native.Nat.{ℕ, _≤_, _<_}
-use mathlib.Core.Path.{_≡_, refl, ap, subst, _∙_}
+use mathlib.Core.Path.{_≡_, refl, subst, _∙_}
 use mathlib.Core.Bool.{Bool, true, false, cond, not}
 use native.Mathlib.Omega.{arith}
 use lib.Dec.{leb}
@@ -75,7 +75,7 @@ get-why pm why = (λ e. because (gets pm) e, λ k. so k)
     because (made w l h f) e = let z : _≡_ {A = ℕ} 0 1 = cc in absurd (omega arith)
 
     answer : {r : PmResult} → getWhole pm ≡ r → getWhole pm .answer ≡ r .answer
-    answer e = ap (λ (r : PmResult). r .answer) e
+    answer e = rw e
 
     so : {why : Refusal} → GetTurnedDown pm why → get pm .answer ≡ Refused why
     so (GetTurnedDown.is-not-whole w) = rw w

@@ -14,7 +14,7 @@ use Rattle.seq.proofs.Tests.{and-left}
 use Rattle.seq.proofs.Walks.{lowest-passes, found-any, lowest-none}
 use Rattle.seq.proofs.Orders.{remove-length}
 use Rattle.seq.proofs.Maps.{map-lowest, map-any, map-remove}
-use Rattle.def.specs.declared.{Answer.Answer, Refusal.Refusal}
+use Rattle.def.specs.declared.{Refusal.Refusal}
 use Rattle.def.specs.State.{slots, highestPoc, noSlot, isIdle, isPresent}
 use Rattle.keys.specs.declared.Rest.{Rest}
 use Rattle.keys.specs.Keys.{keyPresent, keyIdle, keyBuffers, keyNumber, rowLength, rowAt, slotAt, stands, Sized}
@@ -107,7 +107,7 @@ module _ (keys rows : List ℕ) (rest : Rest) (sized : Sized keys rows) (w : who
             let others = row-other rows b zeros rowLength r (omega arith) (omega arith) (omega arith) in
             let unseen : map (slotAt after) keys ≡ map (slotAt rows) keys = slots-unseen rows after b others keys (λ m. free-not-held b refl m) in
             calls-by (new ∙ new-fresh (stands keys rows rest) (omega (arith, size))) (calls-picture refl (record {
-              answers = ap (λ (n : ℕ). Answer.Picture n 0) (sym same-free);
+              answers = rw (← same-free);
               stands-for = rw (unseen, slot-new after b (omega arith) written, same-free) refl;
               lists-stay = lists-stay rows b zeros rowLength r h (omega arith) (omega arith);
               still-sized = record {

@@ -129,9 +129,9 @@ module _ (c : PutCall) (pm : EvcPm) (w : whole pm ≡ true) (size : length (pm .
   remarked-size = kept-length (remarks .kept) ∙ size
 
   pub remarked-lease : remarked c pm .«pic_lease» ≡ pm .«pic_lease»
-  remarked-lease = ap (λ (q : EvcPm). q .«pic_lease») (remarks .counted)
+  remarked-lease = rw (remarks .counted)
 
   pub remarked-held : SameNumbers (heldBuffers pm) (heldBuffers (remarked c pm))
   remarked-held b =
-      ap (λ (q : EvcPm). countIf (eqb b) (heldBuffers q)) (remarks .counted)
-      ∙ kept-held pm (remarked c pm .pic) (remarks .kept) (pm .«cur_pb_size») (countIf isMarked (remarked c pm .pic)) b
+      rw (remarks .counted)
+      (kept-held pm (remarked c pm .pic) (remarks .kept) (pm .«cur_pb_size») (countIf isMarked (remarked c pm .pic)) b)

@@ -2,7 +2,7 @@
 -- stays whole; and no picture is lost.
 -- Assumes nothing.
 use Prim.Native.Nat.{ℕ, _≤_, _<_}
-use mathlib.Core.Path.{_≡_, refl, ap, subst, _∙_}
+use mathlib.Core.Path.{_≡_, refl, subst, _∙_}
 use mathlib.Core.Bool.{Bool, true, false, cond, not}
 use mathlib.Core.List.{List, []}
 use native.Mathlib.Omega.{arith}
@@ -10,7 +10,7 @@ use lib.Dec.{ltb}
 use lib.ListN.{length, getD}
 use borrow.Author.Tests.{ltb-true, ltb-false}
 use Rattle.seq.proofs.Tests.{and-left, and-right, and-both}
-use Rattle.def.specs.declared.{Slot.Slot, EvcPm.EvcPm, EvcRefP.EvcRefP, PutCall.PutCall, PmResult.PmResult, Answer.Answer, Refusal.Refusal}
+use Rattle.def.specs.declared.{EvcPm.EvcPm, EvcRefP.EvcRefP, PutCall.PutCall, PmResult.PmResult, Answer.Answer, Refusal.Refusal}
 use Rattle.def.specs.State.{slots, highestPoc, noSlot}
 use Rattle.whole.specs.Whole.{whole}
 use Rattle.picman.specs.Get.{pmRefused}
@@ -88,7 +88,7 @@ put-why pm refp c why = (λ e. because (puts pm refp c) e, λ k. so k)
     because (placed w p t l o) e = let z : _≡_ {A = ℕ} 0 1 = cc in absurd (omega arith)
 
     answer : {r : PmResult} → whole pm ≡ true → putMarked true pm (remarked c pm) refp c ≡ r → put pm refp c .answer ≡ r .answer
-    answer w e = rw w (ap (λ (r : PmResult). r .answer) e)
+    answer w e = rw (w, e)
 
     so : {why : Refusal} → PutTurnedDown pm c why → put pm refp c .answer ≡ Answer.Refused why
     so (PutTurnedDown.is-not-whole w) = rw w
@@ -101,7 +101,7 @@ put-why pm refp c why = (λ e. because (puts pm refp c) e, λ k. so k)
 
 leased-after : (pm : EvcPm) (c : PutCall) → whole pm ≡ true → length (pm .pic) ≡ slots → pm .«pic_lease» .present ≡ true
     → remarked c pm .«pic_lease» .present ≡ true
-leased-after pm c w size l = ap (λ (s : Slot). s .present) (remarked-lease c pm w size) ∙ l
+leased-after pm c w size l = rw (remarked-lease c pm w size) l
 
 pub put-safe : PutSafe
 put-safe pm refp c size = pick (puts pm refp c)

@@ -1,7 +1,7 @@
 -- Put on keys and rows: the keys marked anew, the place for the picture, the picture there, and each return.
 -- Assumes nothing.
 use mathlib.Core.Path.{_≡_, refl, sym, ap, _∙_, subst}
-use mathlib.Core.Bool.{Bool, true, false, cond, _&&_, _||_}
+use mathlib.Core.Bool.{Bool, true, false, cond, _&&_}
 use mathlib.Core.Bool as Bool
 use mathlib.Core.List.{List, [], _∷_, _++_, map, List·Memᴰ, List·Memᴰ·head, Memᴰ·append-right, Memᴰ·map}
 use Prim.Native.Nat.{ℕ, _+_, _*_, _<_, _≤_}
@@ -14,7 +14,7 @@ use Rattle.seq.specs.Lists.{countIf, select, highest, Distinct}
 use Rattle.seq.proofs.Distinct.{distinct-apart}
 use Rattle.seq.proofs.Members.{select-mem, select-append, map-at}
 use Rattle.seq.proofs.Maps.{map-append, map-set, map-count, map-highest}
-use Rattle.def.specs.declared.{Slot.Slot, EvcPm.EvcPm, PutCall.PutCall, Answer.Answer, Refusal.Refusal}
+use Rattle.def.specs.declared.{EvcPm.EvcPm, PutCall.PutCall, Answer.Answer, Refusal.Refusal}
 use Rattle.keys.specs.declared.{Rest.Rest, Called.Called}
 use Rattle.def.specs.State.{slots, noSlot, isPresent, isMarked, isEmpty, bufferOf}
 use Rattle.keys.specs.Keys.{keyPresent, keyBuffer, keyBuffers, keyEmpty, keyMade, keyUnmarked, rowLength, numberRow, rowAt, slotAt, listsIn, stands, Sized, Comes}
@@ -56,7 +56,7 @@ pub not-marked : (c : PutCall) (pm : EvcPm) → marksAnew c ≡ false → remark
 not-marked c pm e = pick (c .«is_idr») refl
   where
     pick : (idr : Bool) → c .«is_idr» ≡ idr → remarked c pm ≡ pm
-    pick true t = absurd (Bool.true≢false (sym (ap (λ (b : Bool). b || eqb (c .«temporal_id») 0) t) ∙ e))
+    pick true t = absurd (Bool.true≢false (rw t at e))
     pick false t = let base : eqb (c .«temporal_id») 0 ≡ false = rw t at e in rw (t, base) refl
 
 -- ---- a whole state with a picture leased
@@ -101,7 +101,7 @@ module _ (keys rows : List ℕ) (rest : Rest) (sized : Sized keys rows) (w : who
   there : getD (map (slotAt rows) keys) (rest .«cur_num_ref_pics») noSlot .present ≡ keyPresent (getD keys (rest .«cur_num_ref_pics») 0)
   there =
       let h = reference-in in
-      ap (λ (s : Slot). s .present) (map-at (slotAt rows) keys (rest .«cur_num_ref_pics») 0 noSlot (omega (arith, sized .slots-long)))
+      rw (map-at (slotAt rows) keys (rest .«cur_num_ref_pics») 0 noSlot (omega (arith, sized .slots-long)))
 
   abbrev found : ℕ
   found = keyPlace (c .«ref_pic») (rest .«cur_num_ref_pics») keys

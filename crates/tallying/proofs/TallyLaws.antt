@@ -60,13 +60,11 @@ unseen set n = eqb (set / 2 ^ n % 2) 0
 bit-of-power : (b n : ℕ) → 2 ^ b / 2 ^ n % 2 ≡ boolByte (eqb b n)
 bit-of-power zero zero = refl
 bit-of-power zero (suc n) =
-    ap (λ (x : ℕ). x % 2) (div-eq-of-lt (pow-lt {i = 0} {j = suc n} (omega arith)))
-    ∙ sym (ap boolByte (ne-eqb 0 (suc n) (λ e. omega arith)))
+    rw (div-eq-of-lt (pow-lt {i = 0} {j = suc n} (omega arith)))
+    (sym (ap boolByte (ne-eqb 0 (suc n) (λ e. omega arith))))
 bit-of-power (suc b) zero =
-    ap (λ (x : ℕ). x / 1 % 2) (pow-suc 2 b)
-    ∙ ap (λ (x : ℕ). x % 2) (let e : 2 ^ b * 2 / 1 ≡ 2 ^ b * 2 = omega arith in e)
-    ∙ mul-mod-left (2 ^ b) 2
-    ∙ sym (ap boolByte (ne-eqb (suc b) 0 (λ e. omega arith)))
+    let whole : 2 ^ b * 2 / 1 ≡ 2 ^ b * 2 = omega arith in
+    rw (pow-suc 2 b, whole) (mul-mod-left (2 ^ b) 2 ∙ sym (ap boolByte (ne-eqb (suc b) 0 (λ e. omega arith))))
 bit-of-power (suc b) (suc n) =
     ap (λ (x : ℕ). x % 2) (sym (shr-shr (2 ^ suc b) 1 n ∙ ap (λ (x : ℕ). 2 ^ suc b / 2 ^ x) (one-add n)))
     ∙ ap (λ (x : ℕ). x / 2 ^ 1 / 2 ^ n % 2) (pow-suc 2 b)
@@ -95,7 +93,7 @@ unseen-union set b n = ap (λ (x : ℕ). eqb x 0) (bit-of-union set (2 ^ b) n �
     pick : (t : Bool) (x : ℕ) → eqb (max x (boolByte t)) 0 ≡ (not t && eqb x 0)
     pick true zero = refl
     pick true (suc x) = ne-eqb (max (suc x) 1) 0 (λ e. omega (arith, le-max-right (suc x) 1))
-    pick false x = ap (λ (y : ℕ). eqb y 0) (max-zero x)
+    pick false x = rw (max-zero x)
 
 all-unseen-union : (set b : ℕ) (ns : List ℕ) → allOf (unseen (bitOr set (2 ^ b))) ns ≡ (not (anyOf (eqb b) ns) && allOf (unseen set) ns)
 unfolding allOf anyOf
@@ -116,7 +114,7 @@ union-sum set b =
     ∙ or-add-and set (2 ^ b)
   where
     double : 2 ^ (1 + b) - 2 ^ b ≡ 2 ^ b
-    double = let e : 2 ^ (1 + b) ≡ 2 ^ b * 2 = ap (λ (x : ℕ). 2 ^ x) (one-add b) ∙ pow-suc 2 b in omega arith
+    double = let e : 2 ^ (1 + b) ≡ 2 ^ b * 2 = rw (one-add b) (pow-suc 2 b) in omega arith
 
 -- ---- what is gathered from keys
 

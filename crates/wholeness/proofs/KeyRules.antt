@@ -1,7 +1,7 @@
 -- The rules of whole states, told from keys: what one pass gathers from any keys and any lease says whether the state that they stand for is whole.
 -- Assumes nothing.
 use mathlib.Core.Path.{_≡_, refl, sym, ap, ap₂, _∙_}
-use mathlib.Core.Bool.{Bool, true, false, not, _&&_, _||_, and-true}
+use mathlib.Core.Bool.{Bool, true, false, not, _&&_, and-true}
 use mathlib.Core.Bool as Bool
 use mathlib.Core.List.{List, [], _∷_, _++_, map}
 use mathlib.Core.Logic.{_⊎_, inl, inr}
@@ -12,9 +12,8 @@ use lib.Dec.{leb, ltb, eqb}
 use lib.ListN.{replicate}
 use borrow.Author.Tests.{lt-ltb, le-ltb, le-leb, lt-leb, eqb-true, eqb-false, not-true}
 use Rattle.seq.proofs.Tests.{lt-or-ge, all-holds}
-use Rattle.seq.specs.Lists.{allOf, countIf, select, allDiffer}
+use Rattle.seq.specs.Lists.{allOf, countIf, allDiffer}
 use Rattle.seq.proofs.Maps.{map-append, map-count}
-use Rattle.def.specs.declared.Slot.{Slot}
 use Rattle.def.specs.State.{slots, listPlaces, highestPoc, isPresent, isMarked}
 use Rattle.keys.specs.declared.Rest.{Rest}
 use Rattle.keys.specs.Keys.{keyPresent, keyMarked, keyRef, keyOut, keyBuffer, keyLayer, keyNumber, slotAt, stands}
@@ -73,7 +72,7 @@ module _ (rows : List ℕ) (k : ℕ) where
       pick false e = rw e (zeros (eqb k 0) refl e)
 
   number-key : pocFits (slotAt rows k) ≡ lowIfPicture k
-  number-key = ap (λ (b : Bool). not (keyPresent k) || b) (pick (lt-or-ge k (2 ^ 47)))
+  number-key = rw (pick (lt-or-ge k (2 ^ 47)))
     where
       pick : (k < 2 ^ 47) ⊎ (2 ^ 47 ≤ k) → leb (keyNumber k) highestPoc ≡ ltb k (2 ^ 47)
       pick (inl l) = le-leb (keyNumber k) highestPoc (omega arith) ∙ sym (lt-ltb k (2 ^ 47) l)
@@ -92,7 +91,7 @@ tally-last t [] k = refl
 tally-last t (x ∷ ks) k = tally-last (tallied t x) ks k
 
 none-seen : (ns : List ℕ) → allOf (unseen 0) ns ≡ true
-none-seen ns = all-holds (unseen 0) ns (λ n m. ap (λ (x : ℕ). eqb (x % 2) 0) (zero-div (2 ^ n)))
+none-seen ns = all-holds (unseen 0) ns (λ n m. rw (zero-div (2 ^ n)))
 
 in-order : (a b c d e f z p r u : Bool)
     → (a && b && c && d && e && f && z && p && r && u) ≡ (a && (b && (c && d && (e && (f && (z && (r && (u && (p && true)))))))))
@@ -116,7 +115,7 @@ module _ (keys rows : List ℕ) (rest : Rest) where
   places-are = sym (map-append (slotAt rows) keys (rest .lease ∷ []))
 
   held-are : heldBuffers (stands keys rows rest) ≡ heldBy ks
-  held-are = ap (λ (ss : List Slot). map (λ (s : Slot). s .buf) (select isPresent ss)) places-are ∙ buffers-same rows ks
+  held-are = rw places-are (buffers-same rows ks)
 
   -- What is tested of what was gathered.
   abbrev told : Tally → Tally → Bool
@@ -159,24 +158,26 @@ module _ (keys rows : List ℕ) (rest : Rest) where
 
       occupied : some .occupied ≡ countIf isPresent (map (slotAt rows) keys)
       occupied =
-          ap (λ (t : Tally). t .occupied) es ∙ g .occupied-is ∙ none-before (countIf keyPresent keys) ∙ sym (map-count (slotAt rows) isPresent keys)
+          rw es (g .occupied-is ∙ none-before (countIf keyPresent keys) ∙ sym (map-count (slotAt rows) isPresent keys))
 
       marked : some .marked ≡ countIf isMarked (map (slotAt rows) keys)
       marked =
-          ap (λ (t : Tally). t .marked) es ∙ g .marked-is ∙ none-before (countIf keyMarked keys) ∙ sym (map-count (slotAt rows) isMarked keys)
+          rw es (g .marked-is ∙ none-before (countIf keyMarked keys) ∙ sym (map-count (slotAt rows) isMarked keys))
 
       stray : eqb (every .stray) 0 ≡ allOf zeroIfEmpty (places (stands keys rows rest))
       stray =
-          ap (λ (t : Tally). eqb (t .stray) 0) last ∙ h .no-stray
-          ∙ sym (ap (allOf zeroIfEmpty) places-are ∙ all-mapped (slotAt rows) zeroIfEmpty zeroIfNone (zero-key rows) ks)
+          rw last
+          (h .no-stray
+          ∙ sym (ap (allOf zeroIfEmpty) places-are ∙ all-mapped (slotAt rows) zeroIfEmpty zeroIfNone (zero-key rows) ks))
 
       high : ltb (every .high) (2 ^ 47) ≡ allOf pocFits (places (stands keys rows rest))
       high =
-          ap (λ (t : Tally). ltb (t .high) (2 ^ 47)) last ∙ h .no-high
-          ∙ sym (ap (allOf pocFits) places-are ∙ all-mapped (slotAt rows) pocFits lowIfPicture (number-key rows) ks)
+          rw last
+          (h .no-high
+          ∙ sym (ap (allOf pocFits) places-are ∙ all-mapped (slotAt rows) pocFits lowIfPicture (number-key rows) ks))
 
       below : ltb (every .set) (2 ^ 27) ≡ allOf below27 (heldBuffers (stands keys rows rest))
-      below = ap (λ (t : Tally). ltb (t .set) (2 ^ 27)) last ∙ h .set-below ∙ sym (ap (allOf below27) held-are)
+      below = rw last (h .set-below ∙ sym (ap (allOf below27) held-are))
 
       differ : eqb (every .set) (every .sum) ≡ allDiffer (heldBuffers (stands keys rows rest))
       differ =

@@ -1,6 +1,6 @@
 -- `free_buffers::held_buffers` meets its contract: what is flagged so far, with what is left, is what the keys hold. Assumes nothing.
-use mathlib.Core.Path.{_≡_, refl, sym, ap, _∙_}
-use mathlib.Core.Bool.{Bool, false, _||_, or-false}
+use mathlib.Core.Path.{_≡_, refl, sym, _∙_}
+use mathlib.Core.Bool.{false, _||_, or-false}
 use Prim.Native.Nat.{ℕ, _≤_, _<_, _-_}
 use native.Mathlib.Omega.{arith}
 use borrow.Author.Needs.{needs}
@@ -25,7 +25,7 @@ loop-holds c = (
   omega arith,
   c .before .pre,
   refl,
-  λ b h. ap (λ (t : Bool). t || anyOf (eqb b) (keyBuffers (c .before .args .keys .now))) (getD-replicate 32 b false false h),
+  λ b h. rw (getD-replicate 32 b false false h),
 )
 
 mul-k : tie.Need-mul-k Inv-loop μ-loop

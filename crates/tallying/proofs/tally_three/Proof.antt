@@ -1,5 +1,5 @@
 -- `tallying::tally_three` meets its contract: the key of an empty slot adds nothing, and else each key is gathered in turn. Assumes nothing.
-use mathlib.Core.Path.{_≡_, refl, sym, ap, _∙_}
+use mathlib.Core.Path.{_≡_, refl, sym, _∙_}
 use mathlib.Core.Bool.{true, _&&_}
 use Prim.Native.Nat.{ℕ}
 use lib.Bits.{or-zero-r}
@@ -15,7 +15,7 @@ use Rattle.tallying.proofs.tally_three.Tie as tie
 empty : (t : Tally) (k : ℕ) → k ≡ 0 → tallied t k ≡ t
 empty t k e =
     rw e
-    (ap (λ (s : ℕ). record { stray = s; high = t .high; occupied = t .occupied; marked = t .marked; set = t .set; sum = t .sum }) (or-zero-r (t .stray)))
+    (rw (or-zero-r (t .stray)))
 
 three-empty : (t : Tally) (a b c : ℕ) → ((eqb a 0 && eqb b 0) && eqb c 0) ≡ true → t ≡ tallied (tallied (tallied t a) b) c
 three-empty t a b c e =
