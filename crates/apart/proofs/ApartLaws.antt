@@ -154,13 +154,13 @@ module _ (s : Slot) (fits : slotFits s ≡ true) (shaped : Shaped s) where
     where
       pick : (p : Bool) → s .present ≡ p → bare (slotAt rows (keyFor s)) ≡ bare s
       pick true p = ap bare (held-read rows p) ∙ ap (λ (t : Bool). record { present = t; buf = s .buf; pic = bare s .pic }) (sym p)
-      pick false p = ap (λ (k : ℕ). bare (slotAt rows k)) (key-none s fits p) ∙ sym (ap bare (empty-is p))
+      pick false p = rw (key-none s fits p) (sym (ap bare (empty-is p)))
 
   pub slot-read : (rows : List ℕ) → (s .present ≡ true → rowAt rows (s .buf) ≡ s .pic .«list_poc») → slotAt rows (keyFor s) ≡ s
   slot-read rows r = pick (s .present) refl
     where
       pick : (p : Bool) → s .present ≡ p → slotAt rows (keyFor s) ≡ s
-      pick true p = held-read rows p ∙ rw (r p) (ap (λ (t : Bool). record { present = t; buf = s .buf; pic = s .pic }) (sym p))
+      pick true p = held-read rows p ∙ rw (r p, ← p)
       pick false p = ap (slotAt rows) (key-none s fits p) ∙ sym (empty-is p)
 
 -- Where the buffer numbers differ each slot is read back.

@@ -86,7 +86,7 @@ module _ (pm : EvcPm) (rows : List ℕ) (long : length rows ≡ rowsLength) (sha
   pics-are = map-map (slotAt after) keyFor (pm .pic)
 
   places-are : places q ≡ map readBack (places pm)
-  places-are = ap (λ (l : List Slot). l ++ (q .«pic_lease» ∷ [])) pics-are ∙ sym (map-append readBack (pm .pic) (pm .«pic_lease» ∷ []))
+  places-are = rw pics-are (sym (map-append readBack (pm .pic) (pm .«pic_lease» ∷ [])))
 
   -- Some slot breaks a rule by itself: neither is whole.
   stray-shows : (ss : List Slot) → allOf slotFits ss ≡ false → allOf zeroIfEmpty (map readBack ss) ≡ false
@@ -220,15 +220,15 @@ pub record Taking (ss : List Slot) (before keys rows : List ℕ) (i : ℕ) : Typ
   pub rows-so-far : rowsOf rows (drop i ss) ≡ rowsOf before ss
   pub shaped-so-far : (s : Slot) → List·Memᴰ s (take i ss) → Shaped s
 
-module _ (ss : List Slot) (before keys : List ℕ) where
+module _ {ss : List Slot} {before keys : List ℕ} where
   pub taking-none : Taking ss before keys before 0
   taking-none = record { keys-so-far = refl; rows-so-far = refl; shaped-so-far = λ s m. absurd (List·Memᴰ·not-nil m) }
 
-  pub taking-turn : (rows : List ℕ) (i k : ℕ) (after : List ℕ) → length ss ≡ slots → Sized keys rows → i < slots → Taking ss before keys rows i
+  pub taking-turn : {rows : List ℕ} {i k : ℕ} {after : List ℕ} → length ss ≡ slots → Sized keys rows → i < slots → Taking ss before keys rows i
       → TakenSlot (getD ss i noSlot) k rows after
       → (i + 1 ≤ slots) × (length ss ≡ slots) × Sized (set keys i k) after × Taking ss before (set keys i k) after (i + 1)
   unfolding rowsOf
-  taking-turn rows i k after many sized h t a = (
+  taking-turn {rows} {i} {k} {after} many sized h t a = (
     omega arith,
     many,
     record { slots-long = length-set keys i k ∙ sized .slots-long; rows-long = ap length (a .rows-are) ∙ with-long s rows (sized .rows-long) (a .shaped) },
@@ -244,9 +244,9 @@ module _ (ss : List Slot) (before keys : List ℕ) where
       s : Slot
       s = getD ss i noSlot
 
-  pub taking-end : (rows : List ℕ) (i : ℕ) → length ss ≡ slots → length keys ≡ slots → Taking ss before keys rows i → slots ≤ i → TakenSlots ss keys before rows
+  pub taking-end : {rows : List ℕ} {i : ℕ} → length ss ≡ slots → length keys ≡ slots → Taking ss before keys rows i → slots ≤ i → TakenSlots ss keys before rows
   unfolding rowsOf
-  taking-end rows i many long t h = record {
+  taking-end {rows} {i} many long t h = record {
     keys-are = sym (take-all i keys (omega arith)) ∙ t .keys-so-far ∙ ap (map keyFor) (take-all i ss (omega arith));
     rows-are = rw (drop-of-length-le ss {i = i} (omega arith)) at (t .rows-so-far);
     shaped = λ s m. t .shaped-so-far s (rw (take-all i ss (omega arith)) m);

@@ -44,8 +44,8 @@ module _ (rows : List ℕ) where
   pub put-turn : (refp : List EvcRefP) (j : ℕ) → length refp ≡ places → j < places → take j refp ≡ take j (listsIn rows)
       → take (j + 1) (set refp j (entryAt rows j)) ≡ take (j + 1) (listsIn rows)
   put-turn refp j many h e =
-      ap (λ (x : EvcRefP). take (j + 1) (set refp j x)) (sym (lists-at rows j h))
-      ∙ copy-turn noRefP (listsIn rows) refp j (omega (arith, lists-long rows)) (omega arith) e
+      rw (← lists-at rows j h)
+      (copy-turn noRefP (listsIn rows) refp j (omega (arith, lists-long rows)) (omega arith) e)
 
   pub put-end : (refp : List EvcRefP) (j : ℕ) → length refp ≡ places → places ≤ j → take j refp ≡ take j (listsIn rows) → refp ≡ listsIn rows
   put-end refp j many h e = sym (take-all j refp (omega arith)) ∙ e ∙ take-all j (listsIn rows) (omega (arith, lists-long rows))

@@ -1,7 +1,7 @@
 -- Get, put and out as calls that answer with the state alone.
 -- Assumes nothing.
-use mathlib.Core.Path.{_≡_, refl, ap, _∙_, subst}
-use mathlib.Core.Bool.{Bool, false}
+use mathlib.Core.Path.{_≡_, refl, subst}
+use mathlib.Core.Bool.{false}
 use mathlib.Core.List.{List}
 use Prim.Native.Nat.{ℕ}
 use Rattle.def.specs.declared.{EvcPm.EvcPm, EvcRefP.EvcRefP, PutCall.PutCall, Refusal.Refusal}
@@ -31,8 +31,8 @@ broken-put pm refp c = refl
 
 pub put-defined : (refp : List EvcRefP) (c : PutCall) → Defined (λ pm. put pm refp c) (λ pm. putWhole pm refp c)
 put-defined refp c = record {
-  broken = λ pm e. ap (λ (b : Bool). putMarked b pm (remarked c pm) refp c) e ∙ broken-put pm refp c;
-  on-whole = λ pm e. ap (λ (b : Bool). putMarked b pm (remarked c pm) refp c) e;
+  broken = λ pm e. rw e (broken-put pm refp c);
+  on-whole = λ pm e. rw e;
   keeps = λ pm l e. put-safe pm refp c l .stays-whole e;
 }
 

@@ -26,4 +26,4 @@ module _ {pm : EvcPm} {refp : List EvcRefP} {keys rows : List ℕ} {o : Opened} 
   opened-whole e = ap whole (opened-is e) ∙ came-whole e
 
   pub came-long : o .«is_whole» ≡ true → length (pm .pic) ≡ slots
-  came-long e = ap (λ (q : EvcPm). length (q .pic)) (sym (opened-is e)) ∙ length-map keys (slotAt rows) ∙ p .sized .slots-long
+  came-long e = rw (← opened-is e) (length-map keys (slotAt rows) ∙ p .sized .slots-long)

@@ -20,7 +20,7 @@ many : (c : tie.Start Inv-loop μ-loop) → length (c .args .t1) ≡ slots
 many c = search needs
 
 loop-holds : tie.Need-loop-holds Inv-loop μ-loop
-loop-holds c = let s = c .before .before in (omega arith, many s, s .pre, taking-none _ _ _)
+loop-holds c = let s = c .before .before in (omega arith, many s, s .pre, taking-none)
 
 mul-s : tie.Need-mul-s Inv-loop μ-loop
 mul-s c = omega arith
@@ -47,7 +47,7 @@ loop-again : tie.Need-loop-again Inv-loop μ-loop
 loop-again c =
     let at-take = c .before .before in
     let l = at-take .before .before .before .before .loop in
-    taking-turn _ _ _ _ _ _ _ (l .inv .1) (l .inv .2) (omega arith) (l .inv .3) (at-take .take-slot .ensures)
+    taking-turn (l .inv .1) (l .inv .2) (omega arith) (l .inv .3) (at-take .take-slot .ensures)
 
 same-length : tie.Need-same-length Inv-loop μ-loop
 same-length c = search needs
@@ -56,7 +56,7 @@ same-length-2 : tie.Need-same-length-2 Inv-loop μ-loop
 same-length-2 c = search needs
 
 returns : tie.Need-returns Inv-loop μ-loop
-returns c = let l = c .before .loop in taking-end _ _ _ _ _ (l .inv .1) (l .inv .2 .slots-long) (l .inv .3) (omega arith)
+returns c = let l = c .before .loop in taking-end (l .inv .1) (l .inv .2 .slots-long) (l .inv .3) (omega arith)
 
 pub take-slots-spec : {M : Type 1} → statement M
 take-slots-spec =

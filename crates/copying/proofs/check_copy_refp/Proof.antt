@@ -38,7 +38,7 @@ returns c =
     let s = at-take .before .before in
     let e = s .args .refp-src in
     rw (c .put-lists .ensures)
-    (copy-comes-to _ _ _ _ _ _ e (at-take .take-lists .ensures .lists-are)
+    (copy-comes-to _ _ e (at-take .take-lists .ensures .lists-are)
     (rw (at-head .head-of .ensures, entry-parts e (low s)) at (at-copy .copy-refp .ensures)))
 
 pub check-copy-refp-spec : {M : Type 1} → statement M

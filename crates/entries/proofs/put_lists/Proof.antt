@@ -1,11 +1,9 @@
 -- `entries::put_lists` meets its contract: the entries below place j are made. Assumes nothing.
-use mathlib.Core.Path.{_≡_, refl, ap}
-use mathlib.Core.List.{[], _∷_}
+use mathlib.Core.Path.{_≡_, refl}
 use Prim.Native.Nat.{_≤_, _-_}
 use native.Mathlib.Omega.{arith}
 use lib.ListN.{length, take, length-set}
 use Rattle.seq.specs.Lists.{entries, entriesFrom}
-use Rattle.def.specs.declared.{EvcRefP.EvcRefP}
 use Rattle.keys.specs.Keys.{rowsLength, listsIn}
 use Rattle.entries.specs.Entries.{places}
 use Rattle.entries.proofs.EntryLaws.{put-turn, put-end}
@@ -23,7 +21,7 @@ entry-of-requires c κs = (c .before .pre, omega arith)
 
 loop-holds : tie.Need-loop-holds Inv-loop μ-loop
 unfolding entries entriesFrom
-loop-holds c = (omega arith, c .before .before .pre, refl, ap (λ (e : EvcRefP). e ∷ []) (c .entry-of .ensures))
+loop-holds c = (omega arith, c .before .before .pre, refl, rw (c .entry-of .ensures))
 
 entry-of-requires-2 : tie.Need-entry-of-requires-2 Inv-loop μ-loop
 entry-of-requires-2 c κs = (c .before .loop .inv .1, omega arith)
