@@ -1,5 +1,5 @@
 -- Where the forward list of a slice B has an entry, so has its backward list. Assumes nothing.
-use mathlib.Core.Path.{_≡_, refl, ap, _∙_}
+use mathlib.Core.Path.{_≡_, refl, ap}
 use mathlib.Core.Bool.{true}
 use mathlib.Core.List.{List, [], _∷_}
 use native.Mathlib.Omega.{arith}
@@ -7,7 +7,6 @@ use lib.ListN.{length}
 use Rattle.def.specs.declared.{RefpCall.RefpCall, SliceType.SliceType}
 use Rattle.ordering.specs.Order.{Key}
 use Rattle.passes.specs.declared.Walk.{Walk}
-use Rattle.passes.specs.Passes.{listOf}
 use Rattle.ruling.specs.Rules.{askOf}
 use Rattle.passes.proofs.Backward.{backward-has-entry}
 use Rattle.choosing.specs.Choice.{isB, forwardWalk, forwardOf, backwardOf}
@@ -25,5 +24,5 @@ no-entry (k ∷ ks) e = absurd (omega arith)
 pub backward-some : (c : RefpCall) (ks : List Key) → isB (c .«slice_type») ≡ true → (length (forwardOf c ks) ≡ 0 → ⊥) → length (backwardOf c ks) ≡ 0 → ⊥
 backward-some c ks b some z =
     backward-has-entry (askOf c) ks
-    (λ e. some (ap (λ (w : Walk). length (listOf (askOf c) w ks)) (both-walk (c .«slice_type») b) ∙ ap length e))
+    (λ e. some (rw (both-walk (c .«slice_type») b) (ap length e)))
     (no-entry (backwardOf c ks) z)

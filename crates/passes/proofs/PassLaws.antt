@@ -2,7 +2,7 @@
 use mathlib.Core.Path.{_≡_, refl, ap, _∙_}
 use mathlib.Core.Bool.{Bool, true, false, cond, not, and-false}
 use mathlib.Core.List.{List, [], _∷_, _++_, foldl-append}
-use Prim.Native.Nat.{ℕ, _≤_}
+use Prim.Native.Nat.{_≤_}
 use lib.Dec.{ltb}
 use lib.ListN.{length}
 use borrow.Author.Tests.{le-ltb}
@@ -36,7 +36,7 @@ pass-appends a up p ks hs = foldl-append (stepOn a up) p ks hs
 pub full-stays : FullStays
 unfolding passOn
 full-stays a up p [] h = refl
-full-stays a up p (k ∷ ks) h = ap (λ (q : Progress). passOn a up q ks) (step-full a up p k h) ∙ full-stays a up p ks h
+full-stays a up p (k ∷ ks) h = rw (step-full a up p k h) (full-stays a up p ks h)
 
 -- ---- passing over
 
@@ -54,7 +54,7 @@ passing-over a up p (k ∷ ks) = pick (a .old k) refl (λ q. passing-over a up q
   where
     pick : (o : Bool) → a .old k ≡ o → ((q : Progress) → passOn a up q ks ≡ passOn (ageless a) up q (young a ks))
         → passOn a up (stepOn a up p k) ks ≡ passOn (ageless a) up p (cond (not o) (k ∷ young a ks) (young a ks))
-    pick true o rest = ap (λ (q : Progress). passOn a up q ks) (step-old a up p k o) ∙ rest p
+    pick true o rest = rw (step-old a up p k o) (rest p)
     pick false o rest = rest (stepOn a up p k) ∙ ap (λ (q : Progress). passOn (ageless a) up q (young a ks)) (step-young a up p k o)
 
 walked-young : (a : Ask) (up : Bool) (ks : List Key) → young a (walked up ks) ≡ walked up (young a ks)
@@ -84,13 +84,13 @@ module _ {a b : Ask} (same : SameAsk a b) where
   same-on : (up : Bool) (p : Progress) (ks : List Key) → passOn a up p ks ≡ passOn b up p ks
   unfolding passOn
   same-on up p [] = refl
-  same-on up p (k ∷ ks) = ap (λ (q : Progress). passOn a up q ks) (same-step up p k) ∙ same-on up (stepOn b up p k) ks
+  same-on up p (k ∷ ks) = rw (same-step up p k) (same-on up (stepOn b up p k) ks)
 
   same-pass : (up : Bool) (ks list : List Key) → pass a up ks list ≡ pass b up ks list
   unfolding pass
   same-pass up ks list =
-      ap (λ (s : ℕ). passOn a up (record { list = list; bound = s }) (walked up ks) .list) (same .same-start)
-      ∙ ap (λ (p : Progress). p .list) (same-on up (record { list = list; bound = b .start }) (walked up ks))
+      rw (same .same-start)
+      (ap (λ (p : Progress). p .list) (same-on up (record { list = list; bound = b .start }) (walked up ks)))
 
   same-both : (up : Bool) (ks : List Key) → bothWays a up ks ≡ bothWays b up ks
   same-both up ks = same-pass (not up) ks (pass a up ks []) ∙ ap (pass b (not up) ks) (same-pass up ks [])

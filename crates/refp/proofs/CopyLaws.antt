@@ -1,5 +1,5 @@
 -- What every copy does, each claim of specs/Claims.antt under its name. Assumes nothing.
-use mathlib.Core.Path.{_≡_, refl, ap, subst}
+use mathlib.Core.Path.{_≡_, refl, subst}
 use mathlib.Core.Bool.{Bool, true, false, cond, _||_, or-true}
 use mathlib.Core.List.{List}
 use mathlib.Core.Logic.{inl, inr}
@@ -56,14 +56,14 @@ module _ (refp : List EvcRefP) (cnt lidx : ℕ) (src : EvcRefP) where
       rw (le-ltb 20 cnt f, le-ltb 1 lidx l, any-holds same first m (eq-eqb (e .poc) (src .poc) s))
 
 pub copy-why : CopyWhy
-copy-why refp cnt lidx src why = (because (copy-end refp cnt lidx src), λ r. ap (λ (x : CopyResult). x .answer) (reason-refuses refp cnt lidx src r))
+copy-why refp cnt lidx src why = (because (copy-end refp cnt lidx src), λ r. rw (reason-refuses refp cnt lidx src r))
   where
     because : {r : CopyResult} → CopyEnd refp cnt lidx src r → r .answer ≡ Answer.Refused why → CopyReason refp cnt lidx src why
     because (refuses other k) e = let q : other ≡ why = cc in subst (CopyReason refp cnt lidx src) q k
     because copies e = let z : _≡_ {A = ℕ} 0 1 = cc in absurd (omega arith)
 
 pub copy-refused-unchanged : CopyRefusedUnchanged
-copy-refused-unchanged refp cnt lidx src why a = ap (λ (x : CopyResult). x .refp) (reason-refuses refp cnt lidx src (copy-why refp cnt lidx src why .0 a))
+copy-refused-unchanged refp cnt lidx src why a = rw (reason-refuses refp cnt lidx src (copy-why refp cnt lidx src why .0 a))
 
 pub copy-writes : CopyWrites
 copy-writes refp cnt lidx src none = pick (copy-end refp cnt lidx src)

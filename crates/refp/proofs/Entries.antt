@@ -46,17 +46,17 @@ unfolding rowAt
 row-set rows p v c (inl h) = ap (take 21) (drop-set-lt (21 * c) rows p v h)
 row-set rows p v c (inr h) =
     let e : 21 * c + (p - 21 * c) ≡ p = omega arith in
-    ap (λ (q : ℕ). take 21 (drop (21 * c) (set rows q v))) (sym e)
-    ∙ ap (take 21) (drop-set-add (21 * c) rows (p - 21 * c) v)
-    ∙ take-set-le 21 (drop (21 * c) rows) (p - 21 * c) v (omega arith)
+    rw (← e)
+    (ap (take 21) (drop-set-add (21 * c) rows (p - 21 * c) v)
+    ∙ take-set-le 21 (drop (21 * c) rows) (p - 21 * c) v (omega arith))
 
 -- a number in front of what is pasted
 paste-front : (d : List ℕ) (at : ℕ) (s : List ℕ) (n i : ℕ) → at ≤ length d → i < at → getD (paste d at s n) i 0 ≡ getD d i 0
 paste-front d at s n i h l =
     let f : length (take at d) ≡ at = length-take-le at d h in
-    ap (λ (x : List ℕ). getD x i 0) (append-assoc (take at d) (take n s) (drop (at + n) d))
-    ∙ List·getD-append (take at d) (take n s ++ drop (at + n) d) 0 i (omega arith)
-    ∙ getD-take at d i 0 l
+    rw (append-assoc (take at d) (take n s) (drop (at + n) d))
+    (List·getD-append (take at d) (take n s ++ drop (at + n) d) 0 i (omega arith)
+    ∙ getD-take at d i 0 l)
 
 -- ---- one entry
 
@@ -159,7 +159,7 @@ front-or-back rows first i h = pick (lt-or-ge i 21)
     pick (inl l) = (first, i, l, inl refl, sym (row-number rows first i l), refl)
     pick (inr l) =
         let e : 21 * first + i ≡ 21 * (first + 1) + (i - 21) = omega arith in
-        (first + 1, i - 21, omega arith, inr refl, ap (λ (n : ℕ). getD rows n 0) e ∙ sym (row-number rows (first + 1) (i - 21) (omega arith)), e)
+        (first + 1, i - 21, omega arith, inr refl, rw e (sym (row-number rows (first + 1) (i - 21) (omega arith))), e)
 
 module _ (rows : List ℕ) (long : length rows ≡ rowsLength) where
   zeros : List ℕ

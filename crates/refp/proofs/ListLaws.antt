@@ -1,6 +1,6 @@
 -- What every list call does, each claim of specs/Claims.antt under its name: the ways in which a call ends, and what follows from them.
 -- Assumes nothing.
-use mathlib.Core.Path.{_≡_, refl, sym, ap, _∙_, subst}
+use mathlib.Core.Path.{_≡_, refl, sym, _∙_, subst}
 use mathlib.Core.Bool.{Bool, true, false, cond, not}
 use mathlib.Core.Bool as Bool
 use mathlib.Core.List.{List, [], List·Memᴰ}
@@ -125,7 +125,7 @@ module _ (pm : EvcPm) (refp : List EvcRefP) (c : RefpCall) where
   reason-refuses (forward-empty m e) = marked-answer m ∙ rw e
 
 pub lists-why : ListsWhy
-lists-why pm refp c why = (because (lists-end pm refp c), λ r. ap (λ (x : RefpResult). x .answer) (reason-refuses pm refp c r))
+lists-why pm refp c why = (because (lists-end pm refp c), λ r. rw (reason-refuses pm refp c r))
   where
     because : {r : RefpResult} → ListsEnd pm refp c r → r .answer ≡ Answer.Refused why → ListsReason pm c why
     because (refuses other k) e = let q : other ≡ why = cc in subst (ListsReason pm c) q k

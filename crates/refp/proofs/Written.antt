@@ -65,8 +65,8 @@ module _ (xs : List Slot) (refp : List EvcRefP) (fwd bwd : List Key) (w : TwoLis
 
   in-second : (i : ℕ) → getD (bothWritten xs fwd bwd refp) (listPlaces + i) noRefP ≡ getD (written xs bwd (drop listPlaces refp)) i noRefP
   in-second i =
-      ap (λ (n : ℕ). getD (bothWritten xs fwd bwd refp) (n + i) noRefP) (sym first-long)
-      ∙ getD-append-add (written xs fwd (take listPlaces refp)) (written xs bwd (drop listPlaces refp)) i noRefP
+      rw (← first-long)
+      (getD-append-add (written xs fwd (take listPlaces refp)) (written xs bwd (drop listPlaces refp)) i noRefP)
 
   -- the pictures taken, and what the entries behind them keep
   pub forward-place : (j : ℕ) (d : Key) → j < length fwd → getD (bothWritten xs fwd bwd refp) j noRefP ≡ entryOf xs (getD fwd j d)
