@@ -47,7 +47,7 @@ module _ (a : Ask) (up : Bool) where
       pick true t rest =
           let n : length (p .list ++ (k ∷ [])) ≡ suc (length (p .list)) = length-append (p .list) (k ∷ []) ∙ add-one (length (p .list)) in
           rw (step-takes a up p k t, t)
-          (ap (λ (m : ℕ). reach a up m (a .after (k .layer)) ks) (sym n) ∙ rest (record { list = p .list ++ (k ∷ []); bound = a .after (k .layer) }))
+          (rw (← n) (rest (record { list = p .list ++ (k ∷ []); bound = a .after (k .layer) })))
       pick false t rest = rw (step-leaves a up p k t, t) (rest p)
 
 -- ---- the walk to the picture of a slot
@@ -96,4 +96,4 @@ reaches pics num rule up cnt slot r e few = record { comes-to = comes; few = few
         e
         ∙ ap (λ (m : ℕ). reach (askIn rule) up m (rule .start) (inFront slot (walked up (keysIn num pics)))) (sym n)
         ∙ reach-pass (askIn rule) up p (inFront slot (walked up (keysIn num pics))) in
-        (ap (λ (x : Reached). x .cnt) same, ap (λ (x : Reached). x .bound) same)
+        (rw same, rw same)

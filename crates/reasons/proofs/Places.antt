@@ -129,7 +129,7 @@ module _ (pm : EvcPm) (refp : List EvcRefP) (c : RefpCall) (slot : ℕ) (long : 
       let s = at-place (askOf c) (down (pm .pic)) (standing (pm .pic) slot m) (isB (c .«slice_type»)) (goesUp c (pm .pic) slot) refl t in
       let e = forward-is ∙ s .1 in (
         (let n = ap length e ∙ length-append (comeTo c (pm .pic) slot .list) (key ∷ s .0) in omega arith),
-        ap (λ (l : List Key). getD l place key) e ∙ getD-append-seam (comeTo c (pm .pic) slot .list) key (s .0) key,
+        rw e (getD-append-seam (comeTo c (pm .pic) slot .list) key (s .0) key),
       )
 
   in-forward : (n : ℕ) → Condition c (pm .pic) slot (Reason.Taken n) → InForward (lists pm refp c) n (getD (pm .pic) slot noSlot)
@@ -157,10 +157,10 @@ module _ (pm : EvcPm) (refp : List EvcRefP) (c : RefpCall) (slot : ℕ) (long : 
     same-slot =
         one-buffer pm (getD (built .fwd) n key .slot) slot (is-whole pm c slot asked)
         (and-left (isPresent (getD (pm .pic) (getD (built .fwd) n key .slot) noSlot)) _ (marked-there .marked)) (asked .occupied)
-        (sym (ap (λ (e : EvcRefP). e .buf) (built .forward-entry n key in-fwd)) ∙ same)
+        (rw (built .forward-entry n key in-fwd) at same)
 
     is-marked : isMarked (getD (pm .pic) slot noSlot) ≡ true
-    is-marked = ap (λ (i : ℕ). isMarked (getD (pm .pic) i noSlot)) (sym same-slot) ∙ marked-there .marked
+    is-marked = rw (← same-slot) (marked-there .marked)
 
     is-key : getD (built .fwd) n key ≡ key
     is-key = marked-there .key ∙ (λ i. keyOf (same-slot i) (getD (pm .pic) (same-slot i) noSlot))
@@ -188,5 +188,5 @@ buffer-tells pm refp c slot n long asked below same =
 pub taken-exactly : TakenExactly
 taken-exactly pm refp c slot n long asked = (
   λ e. in-forward pm refp c slot long asked n (each-exactly pm refp c slot (Reason.Taken n) asked .0 e .holds),
-  λ f. buffer-tells pm refp c slot n long asked (f .below) (ap (λ (e : EvcRefP). e .buf) (f .entry)),
+  λ f. buffer-tells pm refp c slot n long asked (f .below) (rw (f .entry)),
 )

@@ -39,7 +39,7 @@ module _ (pm : EvcPm) (c : RefpCall) (slot : ℕ) where
 
   chosen-ends : Asked pm c → (ch : Chosen) → choice c (down (pm .pic)) ≡ ch
       → WhyEnd pm c slot (ifChosen ch (ofSlot (pm .pic) slot (reasonFor c (pm .pic) slot)))
-  chosen-ends a (turned-down r) e = turned-away r (lists-why pm [] c r .0 (ap (λ (x : RefpResult). x .answer) (asked-lists [] a e)))
+  chosen-ends a (turned-down r) e = turned-away r (lists-why pm [] c r .0 (rw (asked-lists [] a e)))
   chosen-ends a (chosen fwd bwd) e = judges a fwd bwd e
 
   pub why-end : WhyEnd pm c slot (why pm c slot)

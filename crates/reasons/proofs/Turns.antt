@@ -41,7 +41,7 @@ module _ {slot : ℕ} {k : Key} (here : k .slot ≡ slot) where
     where
       later : eqb (w .slot) slot ≡ false → List·Memᴰ k ws
       later e =
-          ⊎-elim (λ q. absurd (Bool.true≢false (sym (eq-eqb (w .slot) slot (ap (λ (x : Key). x .slot) (sym q) ∙ here)) ∙ e)))
+          ⊎-elim (λ q. absurd (Bool.true≢false (sym (eq-eqb (w .slot) slot (rw (← q) here)) ∙ e)))
           (λ n. n) (List·Memᴰ·cases-cons m)
 
       pick : (b : Bool) → eqb (w .slot) slot ≡ b → (List·Memᴰ k ws → Stands slot k ws) → Stands slot k (w ∷ ws)

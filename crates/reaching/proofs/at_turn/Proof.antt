@@ -75,7 +75,7 @@ told : (c : tie.After-pass-step Inv-loop μ-loop) {b : Bool} → c .pass-step .r
     (looped (c .before .before) .loop .taken) (looped (c .before .before) .loop .bound) (keyIn (key (c .before .before)))
     ≡ b
 unfolding key
-told c e = sym (ap (λ (t : Turn). t .taken) (c .pass-step .ensures)) ∙ e
+told c e = rw (c .pass-step .ensures) at e
 
 loop-holds : tie.Need-loop-holds Inv-loop μ-loop
 loop-holds c = (omega arith, omega arith, record { goes-on = refl })
@@ -128,7 +128,7 @@ loop-again c =
       omega arith,
       (let h = l .inv .1 in omega arith),
       way-takes (l .inv .2) (keyIn (key k)) (next k) (step .before .if1 .left) (told step (c .if2 .taken))
-          (ap (λ (t : Turn). t .bound) (step .pass-step .ensures)),
+          (rw (step .pass-step .ensures)),
     )
 
 add-i-2 : tie.Need-add-i-2 Inv-loop μ-loop

@@ -1,9 +1,8 @@
 -- `weighing::judge` meets its contract: each return knows the tests in front of it. Assumes nothing.
-use mathlib.Core.Path.{_≡_, sym, ap, _∙_}
+use mathlib.Core.Path.{_≡_, sym, _∙_}
 use mathlib.Core.Bool.{Bool}
 use borrow.Author.Needs.{needs}
 use Rattle.ordering.specs.InNumbers.{keyIn}
-use Rattle.passes.specs.declared.Turn.{Turn}
 use Rattle.passes.specs.Passes.{takesKey}
 use Rattle.passes.specs.InNumbers.{askIn}
 use Rattle.weighing.proofs.Judged.{judged-taken, judged-full, judged-old, judged-same, judged-side, judged-layer}
@@ -15,7 +14,7 @@ told : (c : tie.After-pass-step) {b : Bool} → c .pass-step .result .taken ≡ 
     → takesKey (askIn (c .before .args .rule)) (c .before .args .up) (c .before .args .reached .cnt)
     (c .before .args .reached .bound) (keyIn (c .before .args .key))
     ≡ b
-told c e = sym (ap (λ (t : Turn). t .taken) (c .pass-step .ensures)) ∙ e
+told c e = rw (c .pass-step .ensures) at e
 
 -- the places before each test
 abbrev stepped : tie.Else1 → tie.After-pass-step
