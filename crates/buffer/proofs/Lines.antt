@@ -2,7 +2,7 @@
 -- Assumes nothing.
 use Prim.Native.Nat.{ℕ, suc, _+_, _<_}
 use native.Mathlib.Omega.{arith}
-use mathlib.Core.Path.{_≡_, sym, ap, _∙_}
+use mathlib.Core.Path.{_≡_, sym, ap}
 use mathlib.Core.Bool.{Bool, true, false, cond}
 use mathlib.Core.List.{List, [], _∷_, _++_, append-nil}
 use lib.ListN.{length, take, drop, length-append}
@@ -15,7 +15,7 @@ pub first-line : (line cs : List ℕ) → 0 < length line + length cs
     → linesFrom line cs ≡ (line ++ take (lowest isNewline cs) cs) ∷ linesFrom [] (drop (suc (lowest isNewline cs)) cs)
 unfolding linesFrom lowest
 first-line [] [] h = absurd (omega arith)
-first-line (c ∷ line) [] h = ap (λ (l : List ℕ). l ∷ []) (sym (append-nil (c ∷ line)))
+first-line (c ∷ line) [] h = rw (← append-nil (c ∷ line))
 first-line line (c ∷ cs) h = by (isNewline c) (first-line (line ++ (c ∷ [])) cs (omega (arith, length-append line (c ∷ []))))
   where
     by : (b : Bool)
@@ -23,4 +23,4 @@ first-line line (c ∷ cs) h = by (isNewline c) (first-line (line ++ (c ∷ []))
         → cond b (line ∷ linesFrom [] cs) (linesFrom (line ++ (c ∷ [])) cs)
         ≡ (line ++ take (cond b 0 (suc (lowest isNewline cs))) (c ∷ cs)) ∷ linesFrom [] (drop (suc (cond b 0 (suc (lowest isNewline cs)))) (c ∷ cs))
     by true e = ap (λ (l : List ℕ). l ∷ linesFrom [] cs) (sym (append-nil line))
-    by false e = e ∙ ap (λ (l : List ℕ). l ∷ linesFrom [] (drop (suc (lowest isNewline cs)) cs)) (append-snoc line c (take (lowest isNewline cs) cs))
+    by false e = rw (append-snoc line c (take (lowest isNewline cs) cs)) at e

@@ -31,7 +31,9 @@ code-grows code c h = by (ltb code 562949953421312)
 longer-code : (w : Word) (c : ℕ) → longer w c .code ≡ codeWith (w .code) c
 longer-code w c = by (isSign w c)
   where
-    by : (b : Bool) → cond b (wordWith (codeWith (w .code) c) (w .value) true) (wordWith (codeWith (w .code) c) (valueWith (w .value) c) (w .negative)) .code ≡ codeWith (w .code) c
+    by : (b : Bool)
+        → cond b (wordWith (codeWith (w .code) c) (w .value) true) (wordWith (codeWith (w .code) c) (valueWith (w .value) c) (w .negative)) .code
+        ≡ codeWith (w .code) c
     by true = refl
     by false = refl
 
@@ -73,11 +75,14 @@ fed-words [] word d = end-last d word
 fed-words (c ∷ cs) word d = by (isHash c) (isSpace c) (fed-words cs [] (endWord d (wordOf word))) (fed-words cs (word ++ (c ∷ [])) d)
   where
     next : Bool → Bool → Reading
-    next a b = cond a (reading (endWord d (wordOf word)) emptyWord true) (cond b (reading (endWord d (wordOf word)) emptyWord false) (reading d (longer (wordOf word) c) false))
+    next a b =
+        cond a (reading (endWord d (wordOf word)) emptyWord true)
+        (cond b (reading (endWord d (wordOf word)) emptyWord false) (reading d (longer (wordOf word) c) false))
 
     by : (a b : Bool) → fedDraft (foldl feed (reading (endWord d (wordOf word)) emptyWord false) cs) ≡ stepOver (endWord d (wordOf word)) (wordsFrom [] cs)
         → fedDraft (foldl feed (reading d (wordOf (word ++ (c ∷ []))) false) cs) ≡ stepOver d (wordsFrom (word ++ (c ∷ [])) cs)
-        → fedDraft (foldl feed (next a b) cs) ≡ stepOver d (cond a (lastWord word) (cond b (lastWord word ++ wordsFrom [] cs) (wordsFrom (word ++ (c ∷ [])) cs)))
+        → fedDraft (foldl feed (next a b) cs)
+        ≡ stepOver d (cond a (lastWord word) (cond b (lastWord word ++ wordsFrom [] cs) (wordsFrom (word ++ (c ∷ [])) cs)))
     by true b p q = rw (commented (endWord d (wordOf word)) emptyWord cs) (end-last d word)
     by false true p q = p ∙ ap (λ (e : Draft). stepOver e (wordsFrom [] cs)) (end-last d word) ∙ sym (step-append d (lastWord word) (wordsFrom [] cs))
     by false false p q = rw (word-snoc word c) q
@@ -88,5 +93,6 @@ unfolding readCommand wordOf
 fed-command line = ap finished (fed-words line [] begun)
 
 -- A turn of the loop, and its end.
-pub feed-turn : (r next : Reading) (line : List ℕ) (i : ℕ) → i < length line → next ≡ feed r (getD line i 0) → foldl feed next (drop (i + 1) line) ≡ foldl feed r (drop i line)
+pub feed-turn : (r next : Reading) (line : List ℕ) (i : ℕ) → i < length line → next ≡ feed r (getD line i 0)
+    → foldl feed next (drop (i + 1) line) ≡ foldl feed r (drop i line)
 feed-turn r next line i h e = rw (add-one, drop-cons line i 0 h, e)

@@ -26,7 +26,8 @@ idle-turn e p = rw e (record { same-held = refl; handed = refl; heard-out = p })
 
 -- A turn that read, whatever became of its write.
 pub told-turn : {kind : Kind} {held out err held′ out′ err′ : List ℕ} (piece : List ℕ)
-    {spot : Spot} {next : Spoken} {h : Heard} {n : ℕ} {z : ℤ} {r : Handed} → n ≡ clamped z (length piece) → z ≡ h .got → ToldPiece kind held spot (take n piece) out err next held′ out′ err′
+    {spot : Spot} {next : Spoken} {h : Heard} {n : ℕ} {z : ℤ} {r : Handed} → n ≡ clamped z (length piece) → z ≡ h .got
+    → ToldPiece kind held spot (take n piece) out err next held′ out′ err′
     → ltZ (pos 0) (h .got) ≡ true → Given r (record { spoken = next; heard = h; went = On })
     → Turned (r .went) kind held spot out err r held′ piece out′ err′
 told-turn piece e z told p taken = record { told = rw (e, z) at told; some-brought = p }
@@ -107,7 +108,8 @@ is-end ReadFailed e = absurd (Bool.false≢true e)
 is-end WriteFailed e = absurd (Bool.false≢true e)
 
 pub relayed-to-end : {kind : Kind} {held held₁ out₁ err₁ held₂ out′ err′ : List ℕ} {spot : Spot} {last t : Handed}
-    → Looped kind held spot last held₁ out₁ err₁ → isEnd (last .went) ≡ true → Ended kind held₁ last out₁ err₁ t held₂ out′ err′ → Relayed kind held spot t out′ err′
+    → Looped kind held spot last held₁ out₁ err₁ → isEnd (last .went) ≡ true → Ended kind held₁ last out₁ err₁ t held₂ out′ err′
+    → Relayed kind held spot t out′ err′
 relayed-to-end {last = last} l e f =
     to-the-end (record { last = last; held₁ = _; out₁ = _; err₁ = _; held₂ = _; looped = l; input-ended = is-end (last .went) e; ended = f })
 

@@ -6,7 +6,9 @@ use mathlib.Core.Bool.{Bool, not, _&&_}
 use mathlib.Core.List.{List, [], _∷_}
 use lib.Dec.{leb, eqb}
 use Rattle.def.specs.declared.Refusal.{Refusal}
-use Rattle.def.specs.declared.Refusal.the-variants.{SizeTooBig, StoreFull, PictureLeased, NoLease, SlotTaken, NumberTooHigh, StateNotWhole, TooManyReferences, NoReferences, ForwardListEmpty, SameNumber, NoSuchPlace, BadLayer, BadRecord, BadLength, BadLine, BadPlan, NoRoom}
+use Rattle.def.specs.declared.Refusal.the-variants.{SizeTooBig, StoreFull, PictureLeased, NoLease, SlotTaken, NumberTooHigh}
+use Rattle.def.specs.declared.Refusal.the-variants.{StateNotWhole, TooManyReferences, NoReferences, ForwardListEmpty, SameNumber}
+use Rattle.def.specs.declared.Refusal.the-variants.{NoSuchPlace, BadLayer, BadRecord, BadLength, BadLine, BadPlan, NoRoom}
 
 abbrev pub refusalNumber : Refusal → ℕ
 refusalNumber SizeTooBig = 1

@@ -28,7 +28,8 @@ above-zero : (n j : ℕ) → isGopSize n ≡ true → j < n → 0 < depthRuleP n
 above-zero n j e h = ltb-true 0 (depthRuleP n j) (test-at (λ k. ltb 0 (depthRuleP n k)) (λ k. k) n (rows-above n e) j h)
 
 -- where a depth above 0 is shown if the test b holds, a 0 is a refusal
-zero-refused : (b : Bool) (d : ℕ) → (b ≡ true → 0 < d) → depthOrZero (cond b (Depth d) (Refused BadLength)) ≡ 0 → cond b (Depth d) (Refused BadLength) ≡ Refused BadLength
+zero-refused : (b : Bool) (d : ℕ) → (b ≡ true → 0 < d) → depthOrZero (cond b (Depth d) (Refused BadLength)) ≡ 0
+    → cond b (Depth d) (Refused BadLength) ≡ Refused BadLength
 zero-refused true d above e = let h = above refl in absurd (omega arith)
 zero-refused false d above e = refl
 

@@ -2,7 +2,7 @@
 -- Assumes nothing.
 use Prim.Native.Nat.{ℕ}
 use mathlib.Core.Bool.{cond}
-use mathlib.Core.List.{[], _∷_}
+use mathlib.Core.List.{List, [], _∷_}
 use lib.Dec.{eqb}
 use lib.ListN.{getD}
 use Rattle.tokens.specs.declared.Word.{Word}
@@ -37,10 +37,12 @@ intraWord d w = cond (isSigned w) (withSpan d (signedValue w) 7) (failed d)
 abbrev pub limitWord : Draft → Word → Draft
 limitWord d w = cond (isNumber w byte) (withLimit d (w .value) 7) (failed d)
 
+-- What a word does, for each of the words that may be wanted.
+abbrev pub stepsFor : Draft → Word → List Draft
+stepsFor d w =
+    (commandWord d w ∷ firstWord d w ∷ secondWord d w ∷ sliceWord d w ∷ numberWord d w ∷ pictureWord d w
+    ∷ putPart d w ∷ listPart d w ∷ layerWord d w ∷ gapWord d w ∷ intraWord d w ∷ limitWord d w ∷ [])
+
 -- The word that is wanted, by its number; where none is, or one did not fit, no word fits.
 unfoldable pub step : Draft → Word → Draft
-step d w =
-    getD
-    (commandWord d w ∷ firstWord d w ∷ secondWord d w ∷ sliceWord d w ∷ numberWord d w ∷ pictureWord d w ∷ putPart d w ∷ listPart d w ∷ layerWord d w ∷ gapWord d w ∷ intraWord d w ∷ limitWord d w ∷ [])
-    (d .want)
-    (failed d)
+step d w = getD (stepsFor d w) (d .want) (failed d)

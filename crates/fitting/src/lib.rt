@@ -31,7 +31,8 @@ use tokens::is_number;
 use tokens::is_signed;
 use tokens::signed_value;
 ghost use mathlib.Core.Path.{_≡_};
-ghost use Rattle.fitting.specs.Steps.{partsOf, firstWord, secondWord, numberWord, layerWord, gapWord, intraWord, limitWord, step};
+ghost use Rattle.fitting.specs.Steps.{partsOf, firstWord, secondWord, numberWord, layerWord, gapWord};
+ghost use Rattle.fitting.specs.Steps.{intraWord, limitWord, step};
 
 fn parts_of(d: Draft) -> u8
     ensures { λ r. ⌜ r ≡ partsOf d ⌝ }

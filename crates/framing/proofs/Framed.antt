@@ -18,10 +18,10 @@ use Rattle.hex.proofs.HexLaws.{bytes-length, not-second}
 
 module _ (cs : List ℕ) where
   pub odd : (length cs % 2 ≡ 0 → ⊥) → isFramed cs ≡ false
-  odd h = ap (λ (b : Bool). b && isChecked (bytesOf cs)) (not-second (allOf isDigit cs) (eqb (length cs % 2) 0) (ne-eqb (length cs % 2) 0 h))
+  odd h = rw (not-second (allOf isDigit cs) (eqb (length cs % 2) 0) (ne-eqb (length cs % 2) 0 h))
 
   pub no-hex : allOf isDigit cs ≡ false → isFramed cs ≡ false
-  no-hex e = ap (λ (b : Bool). (b && eqb (length cs % 2) 0) && isChecked (bytesOf cs)) e
+  no-hex e = rw e
 
   pub hex : allOf isDigit cs ≡ true → length cs % 2 ≡ 0 → isFramed cs ≡ isChecked (bytesOf cs)
   hex e f = rw (e, eq-eqb (length cs % 2) 0 f)

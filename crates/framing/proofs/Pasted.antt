@@ -23,12 +23,14 @@ stored-paste {bs} {after} {ys} {i} {n} p h =
 digits-append : (xs ys : List ℕ) → digitsOf (xs ++ ys) ≡ digitsOf xs ++ digitsOf ys
 unfolding digitsOf
 digits-append [] ys = refl
-digits-append (x ∷ xs) ys = ap (λ (l : List ℕ). digitOf (x / 16) ∷ digitOf (x % 16) ∷ l) (digits-append xs ys)
+digits-append (x ∷ xs) ys = rw (digits-append xs ys)
 
 whole-parts : (body : List ℕ) → digitsOf body ++ (digitOf (checkByte body / 16) ∷ digitOf (checkByte body % 16) ∷ newline ∷ []) ≡ wholeOf body
 unfolding digitsOf
 whole-parts body =
-    sym (ap (λ (l : List ℕ). l ++ (newline ∷ [])) (digits-append body (checkByte body ∷ [])) ∙ append-assoc (digitsOf body) (digitsOf (checkByte body ∷ [])) (newline ∷ []))
+    sym
+    (ap (λ (l : List ℕ). l ++ (newline ∷ [])) (digits-append body (checkByte body ∷ []))
+    ∙ append-assoc (digitsOf body) (digitsOf (checkByte body ∷ [])) (newline ∷ []))
 
 -- The digits of a body, those of its check byte, and the newline.
 pub line-stored : {bs mid : List ℕ} (body : List ℕ) (check high low : ℕ) → Stored bs 0 (digitsOf body) (2 * length body) mid → check ≡ checkByte body
@@ -36,6 +38,13 @@ pub line-stored : {bs mid : List ℕ} (body : List ℕ) (check high low : ℕ) �
     → Stored bs 0 (wholeOf body) (lineSize body) (set (set (set mid (2 * length body) high) (2 * length body + 1) low) (2 * length body + 2) newline)
 line-stored {bs} {mid} body check high low p e f g =
     let n = 2 * length body in
-    let last = stored-then (stored-then (stored-one (digitOf (checkByte body / 16)) (f ∙ ap (λ (c : ℕ). digitOf (c / 16)) e)) (stored-one (digitOf (checkByte body % 16)) (g ∙ ap (λ (c : ℕ). digitOf (c % 16)) e))) (stored-one newline refl) in
-    let moved = subst (λ (k : ℕ). Stored mid k (digitOf (checkByte body / 16) ∷ digitOf (checkByte body % 16) ∷ newline ∷ []) 3 (set (set (set mid n high) (n + 1) low) (n + 2) newline)) (sym (zero-add n)) last in
+    let last =
+    stored-then
+    (stored-then (stored-one (digitOf (checkByte body / 16)) (rw e at f)) (stored-one (digitOf (checkByte body % 16)) (rw e at g)))
+    (stored-one newline refl) in
+    let moved =
+    subst
+    (λ (k : ℕ). Stored mid k (digitOf (checkByte body / 16) ∷ digitOf (checkByte body % 16) ∷ newline ∷ []) 3
+    (set (set (set mid n high) (n + 1) low) (n + 2) newline))
+    (sym (zero-add n)) last in
     rw (← whole-parts body) (stored-then p moved)

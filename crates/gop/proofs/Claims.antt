@@ -39,7 +39,8 @@ module _ (inter : SliceType) (L : ℕ) where
       flag : Bool
       flag = not (eqb (layerOf s + 1) (L + 1))
 
-      go : (a : PocAnswer) → isPlanned (P.derivedPlan inter (layerOf s + 1) flag a (s .after)) ≡ isAccepted (record { call = s .call; answer = a; after = s .after })
+      go : (a : PocAnswer)
+          → isPlanned (P.derivedPlan inter (layerOf s + 1) flag a (s .after)) ≡ isAccepted (record { call = s .call; answer = a; after = s .after })
       go (PocAnswer.Derived n) = refl
       go (PocAnswer.Refused why) = refl
 
@@ -49,7 +50,8 @@ module _ (inter : SliceType) (L : ℕ) where
       flag : Bool
       flag = not (eqb (layerOf s + 1) (L + 1))
 
-      go : (a : PocAnswer) → plannedNumber (P.derivedPlan inter (layerOf s + 1) flag a (s .after)) ≡ numberOf (record { call = s .call; answer = a; after = s .after })
+      go : (a : PocAnswer)
+          → plannedNumber (P.derivedPlan inter (layerOf s + 1) flag a (s .after)) ≡ numberOf (record { call = s .call; answer = a; after = s .after })
       go (PocAnswer.Derived n) = refl
       go (PocAnswer.Refused why) = refl
 
@@ -73,7 +75,8 @@ module _ (inter : SliceType) (L p : ℕ) (x : Planning) (xs : List Planning) (on
   numbers = ap (map plannedNumber) are ∙ numbers-as inter L (acceptedSteps (x .poc) (fullRun L))
 
   -- a plan is that of an accepted derivation
-  from-step : (Q : Planning → Type 0) → ((s : Step) → List·Memᴰ s (acceptedSteps (x .poc) (fullRun L)) → Q (planOf inter L s)) → (y : Planning) → List·Memᴰ y xs → Q y
+  from-step : (Q : Planning → Type 0) → ((s : Step) → List·Memᴰ s (acceptedSteps (x .poc) (fullRun L)) → Q (planOf inter L s))
+      → (y : Planning) → List·Memᴰ y xs → Q y
   from-step Q f y m =
       let u = mem-unmap (planOf inter L) (acceptedSteps (x .poc) (fullRun L)) (subst (λ (l : List Planning). List·Memᴰ y l) are m) in
       subst Q (sym (u .2)) (f (u .0) (u .1))
@@ -121,7 +124,8 @@ plans-are-full-run length interval inter p r type g = (known .power, run-of (sli
     exists : IsFullRun (floorLog2 length) (firstOf p length interval inter r .poc) (fullRun (floorLog2 length))
     exists = full-run-exists (floorLog2 length) p (firstOf p length interval inter r .poc) (known .short) (g .highest) (one .after)
 
-    are : laterOf p length interval inter r ≡ map (planOf (sliceTypeOf inter) (floorLog2 length)) (acceptedSteps (firstOf p length interval inter r .poc) (fullRun (floorLog2 length)))
+    are : laterOf p length interval inter r
+        ≡ map (planOf (sliceTypeOf inter) (floorLog2 length)) (acceptedSteps (firstOf p length interval inter r .poc) (fullRun (floorLog2 length)))
     are = rw (exists .none-turned-down) (all-between length interval inter p type g (firstOf p length interval inter r .poc))
 
 pub groups-exist : GroupsExist

@@ -44,7 +44,10 @@ refusedPlan why r = record { answer = PlanAnswer.Refused why; poc = r }
 -- Slice type, depth, number and reference flag, with the record after.
 abbrev pub planned : SliceType → ℕ → ℤ → Bool → EvcPoc → Planning
 planned slice depth z flag r =
-    record { answer = PlanAnswer.Planned (record { «slice_type» = slice; «slice_depth» = depth; «poc_val» = record { 0 = z }; «slice_ref_flag» = flag }); poc = r }
+    record {
+      answer = PlanAnswer.Planned (record { «slice_type» = slice; «slice_depth» = depth; «poc_val» = record { 0 = z }; «slice_ref_flag» = flag });
+      poc = r;
+    }
 
 -- A key picture, or a multiple of the length: the number is the count, which is written into the record as number and as
 -- previous, with offset 0. Whatever the record held is not read.

@@ -23,7 +23,7 @@ pub body-back : (b : List ℕ) → bodyOf (withCheck b) ≡ b
 unfolding bodyOf
 body-back b =
     let n : length (withCheck b) - 1 ≡ length b = omega (arith, length-append b (checkByte b ∷ [])) in
-    ap (λ (k : ℕ). take k (withCheck b)) n ∙ take-at b (checkByte b ∷ []) (length b) refl
+    rw n (take-at b (checkByte b ∷ []) (length b) refl)
 
 pub checked : (b : List ℕ) → isChecked (withCheck b) ≡ true
 checked b = and-both (lt-ltb 0 (length (withCheck b)) (omega (arith, length-append b (checkByte b ∷ [])))) (eq-eqb (sum8 (withCheck b)) 0 (check-sum b))
@@ -64,9 +64,9 @@ checked-body bs h e =
     let n = length bs - 1 in
     let one : suc n ≡ length bs = omega arith in
     let last : drop n bs ≡ byteAt bs n ∷ [] =
-    drop-cons bs n 0 (omega arith) ∙ ap (λ (l : List ℕ). byteAt bs n ∷ l) (drop-of-length-le bs {i = suc n} (omega arith)) in
-    let split : bs ≡ take n bs ++ (byteAt bs n ∷ []) = sym (take-append-drop n bs) ∙ ap (λ (l : List ℕ). take n bs ++ l) last in
-    split ∙ ap (λ (b : ℕ). take n bs ++ (b ∷ [])) (last-check (take n bs) (byteAt bs n) (byte-fits bs h n) (sym (ap sum8 split) ∙ zero-sum))
+    rw (drop-of-length-le bs {i = suc n} (omega arith)) at (drop-cons bs n 0 (omega arith)) in
+    let split : bs ≡ take n bs ++ (byteAt bs n ∷ []) = rw last at (sym (take-append-drop n bs)) in
+    rw (last-check (take n bs) (byteAt bs n) (byte-fits bs h n) (sym (ap sum8 split) ∙ zero-sum)) at split
 
 -- ---- a line of a body
 

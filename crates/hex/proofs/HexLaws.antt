@@ -38,7 +38,8 @@ digit-where c e = by-first (leb 48 c && leb c 57) refl
     by-first false f = let w = both (leb 97 c) (leb c 102) (simp f at e) in inr (leb-true 97 c (w .0), leb-true c 102 (w .1))
 
 -- What holds in both stretches, of a digit and its value, holds of every digit.
-pub each-digit : (P : ℕ → ℕ → Type 0) → ((c : ℕ) → 48 ≤ c → c ≤ 57 → P c (c - 48)) → ((c : ℕ) → 97 ≤ c → c ≤ 102 → P c (c - 87)) → (c : ℕ) → isDigit c ≡ true → P c (digitValue c)
+pub each-digit : (P : ℕ → ℕ → Type 0) → ((c : ℕ) → 48 ≤ c → c ≤ 57 → P c (c - 48)) → ((c : ℕ) → 97 ≤ c → c ≤ 102 → P c (c - 87)) → (c : ℕ)
+    → isDigit c ≡ true → P c (digitValue c)
 each-digit P f g c e =
     ⊎-elim
     (λ (w : (48 ≤ c) × (c ≤ 57)). rw (low-digit c (w .0) (w .1) .1) (f c (w .0) (w .1)))

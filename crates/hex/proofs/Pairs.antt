@@ -32,10 +32,12 @@ not-both false l rest e = refl
 not-both true l rest e = simp e
 
 -- A pair that is not two digits, anywhere among the characters left.
-pub not-hex : (cs : List ℕ) (i : ℕ) → 2 * i + 1 < length cs → (isDigit (getD cs (2 * i) 0) && isDigit (getD cs (2 * i + 1) 0)) ≡ false → allOf isDigit (drop (2 * i) cs) ≡ false
+pub not-hex : (cs : List ℕ) (i : ℕ) → 2 * i + 1 < length cs → (isDigit (getD cs (2 * i) 0) && isDigit (getD cs (2 * i + 1) 0)) ≡ false
+    → allOf isDigit (drop (2 * i) cs) ≡ false
 not-hex cs i h e = pair-hex cs i h ∙ not-both (isDigit (getD cs (2 * i) 0)) (isDigit (getD cs (2 * i + 1) 0)) _ e
 
-pub pair-bytes : (cs bs : List ℕ) (i b : ℕ) → 2 * i + 1 < length cs → i < length bs → b ≡ 16 * digitValue (getD cs (2 * i) 0) + digitValue (getD cs (2 * i + 1) 0)
+pub pair-bytes : (cs bs : List ℕ) (i b : ℕ) → 2 * i + 1 < length cs → i < length bs
+    → b ≡ 16 * digitValue (getD cs (2 * i) 0) + digitValue (getD cs (2 * i + 1) 0)
     → take (i + 1) (set bs i b) ++ bytesOf (drop (2 * (i + 1)) cs) ≡ take i bs ++ bytesOf (drop (2 * i) cs)
 unfolding bytesOf
 pair-bytes cs bs i b p q e =
@@ -43,7 +45,7 @@ pair-bytes cs bs i b p q e =
     ap (λ (k : ℕ). take k (set bs i b) ++ rest) (add-one i)
     ∙ ap (λ (t : List ℕ). t ++ rest) (take-suc-set bs i b q)
     ∙ append-snoc (take i bs) b rest
-    ∙ rw e (sym (ap (λ (t : List ℕ). take i bs ++ bytesOf t) (drop-pair cs i p)))
+    ∙ rw e (sym (rw (drop-pair cs i p)))
 
 -- What the digits of a byte add, after those of the bytes before it.
 pub pair-digits : (bs line : List ℕ) (i h l : ℕ) → i < length bs → 2 * i + 1 < length line → h ≡ digitOf (getD bs i 0 / 16) → l ≡ digitOf (getD bs i 0 % 16)
@@ -57,7 +59,8 @@ pair-digits bs line i h l p q e f =
     let n : 2 * (i + 1) ≡ suc (2 * i + 1) = omega arith in
     let o : 2 * i + 1 ≡ suc (2 * i) = omega arith in
     ap (λ (j : ℕ). take j (set one (2 * i + 1) l) ++ rest) n
-    ∙ ap (λ (t : List ℕ). t ++ rest) (take-suc-set one (2 * i + 1) l m ∙ ap (λ (j : ℕ). take j one ++ (l ∷ [])) o ∙ ap (λ (t : List ℕ). t ++ (l ∷ [])) (take-suc-set line (2 * i) h k))
+    ∙ ap (λ (t : List ℕ). t ++ rest)
+    (take-suc-set one (2 * i + 1) l m ∙ ap (λ (j : ℕ). take j one ++ (l ∷ [])) o ∙ ap (λ (t : List ℕ). t ++ (l ∷ [])) (take-suc-set line (2 * i) h k))
     ∙ append-snoc (take (2 * i) line ++ (h ∷ [])) l rest
     ∙ append-snoc (take (2 * i) line) h (l ∷ rest)
     ∙ rw (e, f) (sym (ap (λ (t : List ℕ). take (2 * i) line ++ digitsOf t) (drop-cons bs i 0 p ∙ ap (λ (j : ℕ). getD bs i 0 ∷ drop j bs) (sym (add-one i)))))

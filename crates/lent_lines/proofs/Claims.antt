@@ -45,7 +45,8 @@ module _ (q r : ℕ) where
   fourth : (4294967296 * q + r) / 16777216 % 256 ≡ r / 16777216 % 256
   fourth = let e : (4294967296 * q + r) / 16777216 ≡ 256 * q + r / 16777216 = omega arith in rw e (omega arith)
 
-  below : r < 2 ^ 32 → word ((4294967296 * q + r) / 16777216 % 256) ((4294967296 * q + r) / 65536 % 256) ((4294967296 * q + r) / 256 % 256) ((4294967296 * q + r) % 256) ≡ r
+  below : r < 2 ^ 32
+      → word ((4294967296 * q + r) / 16777216 % 256) ((4294967296 * q + r) / 65536 % 256) ((4294967296 * q + r) / 256 % 256) ((4294967296 * q + r) % 256) ≡ r
   below h = let first : (4294967296 * q + r) % 256 ≡ r % 256 = omega arith in rw (first, second, third, fourth) (word-of-bytes r h)
 
 lower : (n : ℕ) → word (n / 16777216 % 256) (n / 65536 % 256) (n / 256 % 256) (n % 256) ≡ n % 4294967296
@@ -78,7 +79,8 @@ next-fits lines at h k = by (ltb at (length lines)) (ltb (lineEnd lines at) (len
 
 pub place-shown : PlaceShown
 unfolding readOut
-place-shown lines at record-bytes h k e = rw (eq-eqb (length record-bytes) recordLength e) (shown (answerAt lines at) (afterLine lines at) (next-fits lines at h k))
+place-shown lines at record-bytes h k e =
+    rw (eq-eqb (length record-bytes) recordLength e) (shown (answerAt lines at) (afterLine lines at) (next-fits lines at h k))
 
 pub refused-leaves : RefusedLeaves
 unfolding wroteOut

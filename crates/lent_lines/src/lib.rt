@@ -10,7 +10,8 @@ use reader::answer_at;
 use writer::Written;
 use writer::write_fields;
 ghost use mathlib.Core.Path.{_≡_};
-ghost use Rattle.lent_lines.specs.LentLines.{lentOut, noReply, placeRecord, recordOf, readStatus, readOut, writtenStatus, wroteOut};
+ghost use Rattle.lent_lines.specs.LentLines.{lentOut, noReply, placeRecord, recordOf, readStatus, readOut};
+ghost use Rattle.lent_lines.specs.LentLines.{writtenStatus, wroteOut};
 
 const DONE: u8 = 0;
 

@@ -117,7 +117,8 @@ body-of b =
     either true f g = f refl
     either false f g = g
 
-    flags : byteAt b 0 ≡ 3 → length b ≡ 11 → (t : Bool) → badFlags (byteAt b 1) ≡ t → CallBody b (cond t none (some (PutPic (byteAt b 1) (wordAt b 2 3 4 5) (byteAt b 6) (wordAt b 7 8 9 10))))
+    flags : byteAt b 0 ≡ 3 → length b ≡ 11 → (t : Bool) → badFlags (byteAt b 1) ≡ t
+        → CallBody b (cond t none (some (PutPic (byteAt b 1) (wordAt b 2 3 4 5) (byteAt b 6) (wordAt b 7 8 9 10))))
     flags p q true e = nothing
     flags p q false e = put p q (ltb-false 15 (byteAt b 1) e)
 
@@ -154,11 +155,15 @@ call-bytes : (call : Call) → CallFits call → AreBytes (callBytes call)
 unfolding CallFits AreBytes
 call-bytes (Init size refs) f = (omega arith, (f .0, (f .1, tt)))
 call-bytes GetEmptyPic f = (omega arith, tt)
-call-bytes (PutPic flags poc layer gap) f =
-    (omega arith, (omega (arith, f .0), (omega arith, (omega arith, (omega arith, (omega arith, (f .2, (omega arith, (omega arith, (omega arith, (omega arith, tt)))))))))))
+call-bytes (PutPic flags poc layer gap) f = (
+  omega arith,
+  (omega (arith, f .0), (omega arith, (omega arith, (omega arith, (omega arith, (f .2, (omega arith, (omega arith, (omega arith, (omega arith, tt)))))))))),
+)
 call-bytes OutPic f = (omega arith, tt)
-call-bytes (RefpInit slice poc layer intra limit) f =
-    (omega arith, (f .0, (omega arith, (omega arith, (omega arith, (omega arith, (f .2, (omega arith, (omega arith, (omega arith, (omega arith, (f .4, tt))))))))))))
+call-bytes (RefpInit slice poc layer intra limit) f = (
+  omega arith,
+  (f .0, (omega arith, (omega arith, (omega arith, (omega arith, (f .2, (omega arith, (omega arith, (omega arith, (omega arith, (f .4, tt))))))))))),
+)
 call-bytes (PocDerivation length layer) f = (omega arith, (f .0, (f .1, tt)))
 
 call-reads : (call : Call) → CallFits call → callIn (callBytes call) ≡ some call

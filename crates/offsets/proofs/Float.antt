@@ -3,7 +3,8 @@
 -- Assumes nothing.
 use mathlib.Core.Path.{_≡_, refl, sym, ap, ap₂, _∙_, subst}
 use Prim.Native.Nat.{ℕ, suc, _+_, _-_, _*_, _^_, _≤_, _<_}
-use native.Mathlib.Nat.{lt-of-lt-of-le, mul-pos, mul-assoc, mul-comm, mul-left-comm, mul-mul-mul-comm, add-mul, mul-sub, eq-of-mul-eq-mul-right, lt-of-mul-lt-mul-right, mul-lt-mul-of-pos-right}
+use native.Mathlib.Nat.{lt-of-lt-of-le, mul-pos, mul-assoc, mul-comm, mul-left-comm, mul-mul-mul-comm, add-mul, mul-sub}
+use native.Mathlib.Nat.{eq-of-mul-eq-mul-right, lt-of-mul-lt-mul-right, mul-lt-mul-of-pos-right}
 use native.Mathlib.Omega.{arith}
 use mathlib.Core.Bool.{Bool, true, false}
 use lib.Dec.{T, lt→ltb}
@@ -49,7 +50,9 @@ cross N P M Q K u h p q =
 
 rounded : (f : Format) (s : Bool) (N P M Q u k : ℕ) → 0 < P → 0 < Q → N * Q ≡ M * P → M * 2 ^ k ≡ u * Q → Held f u k → Value (round f s N P) s u k
 rounded f s N P M Q u k P0 Q0 p q h =
-    record { is = subst (λ (x : Float). HasValue x s u (2 ^ k)) (sym (round-same f s N P u (2 ^ k) P0 (pow-pos k) (cross N P M Q (2 ^ k) u Q0 p q))) (own f s u k h) }
+    record {
+      is = subst (λ (x : Float). HasValue x s u (2 ^ k)) (sym (round-same f s N P u (2 ^ k) P0 (pow-pos k) (cross N P M Q (2 ^ k) u Q0 p q))) (own f s u k h);
+    }
 
 -- ---- an operand, taken apart
 
@@ -65,7 +68,7 @@ parts {x} {s} {a} {k} v = go x (v .is)
     go : (x : Float) → HasValue x s a (2 ^ k) → Parts x s a k
     go nan v = absurd v
     go (inf t) v = absurd v
-    go (fin t m e) v = record { m = m; e = e; is = ap (λ (b : Bool). fin b m e) (v .0); size = v .1 }
+    go (fin t m e) v = record { m = m; e = e; is = rw (v .0); size = v .1 }
 
 -- ---- the operations
 

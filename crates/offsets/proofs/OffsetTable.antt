@@ -99,7 +99,7 @@ module _ {L d : ℕ} (h : InTable L d) where
 
   module _ {z : ℤ} (e : z ≡ signedOffset L (expectedTemporalId d) d) where
     pub read-back : toZ w16 (ofZ w16 z) ≡ signedOffset L (expectedTemporalId d) d
-    read-back = ap (λ x. toZ w16 (ofZ w16 x)) e ∙ toZ-ofZ w16 _ (record { sfits = small 32768 (omega arith) })
+    read-back = rw e (toZ-ofZ w16 _ (record { sfits = small 32768 (omega arith) }))
 
     pub widens : SFits w32 (toZ w16 (ofZ w16 z))
     widens = subst (SFits w32) (sym read-back) (record { sfits = small 2147483648 (omega arith) })

@@ -110,7 +110,8 @@ pairs-end cs i (suc n) e f =
     let r = pairs-end cs (i + 2) n (and-right (isPair cs i) (arePairs cs (i + 2) n) e) (rw (← m) f) in
     let k = r .0 in
     let one = lowest-miss 0 isNewline cs i (omega arith) (not-newline (getD cs i 0) (and-left (isDigit (getD cs i 0)) (isDigit (getD cs (i + 1) 0)) p)) in
-    let two = lowest-miss 0 isNewline cs (i + 1) (omega arith) (not-newline (getD cs (i + 1) 0) (and-right (isDigit (getD cs i 0)) (isDigit (getD cs (i + 1) 0)) p)) in
+    let two =
+    lowest-miss 0 isNewline cs (i + 1) (omega arith) (not-newline (getD cs (i + 1) 0) (and-right (isDigit (getD cs i 0)) (isDigit (getD cs (i + 1) 0)) p)) in
     let g : i + 1 + 1 ≡ i + 2 = omega arith in
     let both = rw g at two in
     (omega arith, sym one ∙ sym both ∙ r .1 ∙ sym m)

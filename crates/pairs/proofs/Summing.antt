@@ -73,7 +73,8 @@ module _ {cs : List ℕ} {i : ℕ} where
   pub summed-quad : {m sum : ℕ} {good : Bool} (at r : ℕ) → at ≡ i + 2 * m → Summed cs i m sum good → r ≡ (sum + quadOf cs at .sum) % 256
       → Summed cs i (m + 4) r (good && quadOf cs at .good)
   summed-quad {m} at r e s f =
-      summed-more 4 (quadOf cs at .sum) r (quadOf cs at .good) s (quad-sum cs at ∙ ap (λ (k : ℕ). sum8 (pairsAt cs k 4)) e) (quad-digits cs at ∙ ap (λ (k : ℕ). arePairs cs k 4) e) f
+      summed-more 4 (quadOf cs at .sum) r (quadOf cs at .good) s (quad-sum cs at ∙ ap (λ (k : ℕ). sum8 (pairsAt cs k 4)) e)
+      (quad-digits cs at ∙ ap (λ (k : ℕ). arePairs cs k 4) e) f
 
 -- The check byte and the newline.
 pub ends : (cs : List ℕ) (at sum r : ℕ) (good : Bool) → r ≡ (sum + pairAt cs at) % 256
@@ -94,4 +95,13 @@ quad-value cs i n k at h e =
     let x : at + 2 ≡ i + 2 * (k + 1) = omega arith in
     let y : at + 4 ≡ i + 2 * (k + 2) = omega arith in
     let z : at + 6 ≡ i + 2 * (k + 3) = omega arith in
-    rw (pair-entry cs i n k (omega arith), pair-entry cs i n (k + 1) (omega arith), pair-entry cs i n (k + 2) (omega arith), pair-entry cs i n (k + 3) h, x, y, z, e)
+    rw (
+      pair-entry cs i n k (omega arith),
+      pair-entry cs i n (k + 1) (omega arith),
+      pair-entry cs i n (k + 2) (omega arith),
+      pair-entry cs i n (k + 3) h,
+      x,
+      y,
+      z,
+      e,
+    )

@@ -69,7 +69,7 @@ fewest-decimal zero k n h f = absurd (let a = f .0 in omega arith)
 fewest-decimal (suc r) zero n h f = absurd (omega arith)
 fewest-decimal (suc zero) (suc k) n h f =
     let small : n < 10 = f .1 in
-    rw (lt-ltb n 10 small) (ap (λ (d : ℕ). d ∷ []) (low n small))
+    rw (lt-ltb n 10 small) (rw (low n small))
 fewest-decimal (suc (suc r)) (suc k) n h f =
     let top = pow-suc 10 (suc r) in
     let step = pow-suc 10 r in

@@ -16,7 +16,7 @@ module _ (table lengths : List ℕ) (width n : ℕ) where
   entryAt k = entryOf table width k (getD lengths k 0)
 
   pub text-at : (texts : List (List ℕ)) → entries entryAt n ≡ texts → (k : ℕ) → k < n → entryAt k ≡ getD texts k []
-  text-at texts e k h = sym (entry entryAt [] n k h) ∙ ap (λ (t : List (List ℕ)). getD t k []) e
+  text-at texts e k h = rw e at (sym (entry entryAt [] n k h))
 
   abbrev pub shortAt : ℕ → Bool
   shortAt k = leb (getD lengths k 0) width

@@ -11,7 +11,8 @@ use Rattle.def.specs.declared.Refusal.{Refusal}
 use Rattle.def.specs.declared.Refusal.the-variants.{BadLayer, BadRecord, NumberTooHigh}
 use Rattle.poc.specs.declared.PocAnswer.the-variants.{Derived}
 use Rattle.poc.specs.declared.Derivation.{Derivation}
-use Rattle.poc.specs.PictureNumber.{derive, number, offsetFrom, recordOf, derivationRefused, settled, tooHigh, maxPoc, badLayer, badRecord, keyPicture, otherPicture, nextOffset, nextPrevious}
+use Rattle.poc.specs.PictureNumber.{derive, number, offsetFrom, recordOf, derivationRefused, settled, tooHigh, maxPoc, badLayer}
+use Rattle.poc.specs.PictureNumber.{badRecord, keyPicture, otherPicture, nextOffset, nextPrevious}
 use Rattle.poc.specs.Distance.{Call, Step, step, isAccepted, acceptedSteps}
 
 -- A call with what a derivation came to.
@@ -88,4 +89,4 @@ module _ (r : EvcPoc) (c : Call) (cs : List Call) where
 
   pub accepted-no : isAccepted (step r c) ≡ false → acceptedSteps r (c ∷ cs) ≡ acceptedSteps r cs
   unfolding acceptedSteps
-  accepted-no e = rw e (ap (λ q. acceptedSteps q cs) (refused-keeps c (c .log2) (c .layer) r e))
+  accepted-no e = rw (e, refused-keeps c (c .log2) (c .layer) r e)

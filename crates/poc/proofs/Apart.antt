@@ -14,7 +14,8 @@ use Rattle.seq.proofs.Members.{mem-unmap, holds-cons}
 use Rattle.seq.proofs.Distinct.{distinct-by, climbing-above, climbing-distinct, all-met, once}
 use Rattle.def.specs.declared.EvcPoc.{EvcPoc}
 use Rattle.poc.specs.PictureNumber.{derive, number}
-use Rattle.poc.specs.Distance.{Call, Step, step, isAccepted, acceptedSteps, numberOf, layerOf, LaterCalls, AfterKey, SubGroup, FirstIsKey, Between, Origin, ComesFrom, Apart, DistanceFrom, DistanceRule, DistanceFirst}
+use Rattle.poc.specs.Distance.{Call, Step, step, isAccepted, acceptedSteps, numberOf, layerOf, LaterCalls, AfterKey, SubGroup}
+use Rattle.poc.specs.Distance.{FirstIsKey, Between, Origin, ComesFrom, Apart, DistanceFrom, DistanceRule, DistanceFirst}
 use Rattle.poc.specs.Clip.{leaves}
 use Rattle.poc.proofs.Differences.{pos-inj}
 use Rattle.poc.proofs.Offset.{Layer, one-layer}
@@ -88,7 +89,9 @@ module _ (L p : ℕ) (ss : List Step) (w : Walk L p 0 ss) where
           let y = pow-mono (o .layer-high) in
           let u = mem-unmap docAfter ss (offset-met full (f .d) (omega arith) (omega arith)) in
           let v = origin-of (u .0) (u .1) in
-          let same = one-layer (f .t) (layerOf (u .0)) (f .d) (o .layer-low) (v .layer-low) (layer-of o) (subst (λ (x : ℕ). Layer (layerOf (u .0)) x) (sym (u .2)) (layer-of v)) in
+          let same =
+          one-layer (f .t) (layerOf (u .0)) (f .d) (o .layer-low) (v .layer-low) (layer-of o)
+          (subst (λ (x : ℕ). Layer (layerOf (u .0)) x) (sym (u .2)) (layer-of v)) in
           let e : n ≡ numberOf (u .0) = sym (o .gives) ∙ ap₂ (λ t d. number p L t d) same (u .2) ∙ v .gives in
           once (map numberOf ss) numbers-differ (Memᴰ·cast e (Memᴰ·map numberOf (u .1)))
 
@@ -114,10 +117,11 @@ distance-from L p r calls key h = all-apart L p (acceptedSteps r calls) (the-wal
 
 -- ---- a list whose first accepted call is of layer 0
 
-module _ (L p : ℕ) (r : EvcPoc) (c : Call) (len : c .log2 ≡ L) (none : c .layer ≡ 0) (ok : isAccepted (step r c) ≡ true) (is : numberOf (step r c) ≡ pos p) where
+module _ (L p : ℕ) (r : EvcPoc) (c : Call) (len : c .log2 ≡ L) (none : c .layer ≡ 0) (ok : isAccepted (step r c) ≡ true)
+    (is : numberOf (step r c) ≡ pos p) where
   -- it gives previous + 2^L and leaves the offset 0
   key-step : step r c ≡ stepOf c (derived (pos (r .«prev_poc_val» + 2 ^ L)) (r .«prev_poc_val» + 2 ^ L) 0)
-  key-step = a ∙ ap (λ x. stepOf c x) (accepted-is c L 0 r (ap isAccepted (sym a) ∙ ok))
+  key-step = rw (accepted-is c L 0 r (ap isAccepted (sym a) ∙ ok)) at a
     where
       a : step r c ≡ stepOf c (derive L 0 r)
       a = ap₂ (λ k t. stepOf c (derive k t r)) len none
@@ -169,10 +173,14 @@ module _ {L p : ℕ} {r : EvcPoc} {calls : List Call} (g : SubGroup L p r calls)
   after-first = step r (opening .first) .after
 
   pub group-previous : p ≡ r .«prev_poc_val» + 2 ^ L
-  group-previous = let o = opening in key-previous L p r (o .first) (rw (o .is-key) at (g .key-length)) (rw (o .is-key) at (g .key-layer)) (o .ok) (rw (o .is-key) at (g .key-number))
+  group-previous =
+      let o = opening in
+      key-previous L p r (o .first) (rw (o .is-key) at (g .key-length)) (rw (o .is-key) at (g .key-layer)) (o .ok) (rw (o .is-key) at (g .key-number))
 
   pub group-after : AfterKey p after-first
-  group-after = let o = opening in after-key L p r (o .first) (rw (o .is-key) at (g .key-length)) (rw (o .is-key) at (g .key-layer)) (o .ok) (rw (o .is-key) at (g .key-number))
+  group-after =
+      let o = opening in
+      after-key L p r (o .first) (rw (o .is-key) at (g .key-length)) (rw (o .is-key) at (g .key-layer)) (o .ok) (rw (o .is-key) at (g .key-number))
 
   pub group-walk : Walk L p 0 (acceptedSteps after-first (opening .behind))
   group-walk = the-walk L p after-first (opening .behind) group-after (subst (LaterCalls L) (opening .is-later) (g .rest))
@@ -187,7 +195,7 @@ distance-rule L p r calls g =
 
 module _ (L p : ℕ) (r : EvcPoc) (first : Call) (later : List Call) (g : FirstIsKey L p r first later) where
   first-accepted : isAccepted (step r first) ≡ true
-  first-accepted = ap (λ a. isAccepted (record { call = first; answer = a; after = step r first .after })) (g .first-number)
+  first-accepted = rw (g .first-number)
 
   pub first-group : SubGroup L p r (first ∷ later)
   first-group =
@@ -198,7 +206,7 @@ module _ (L p : ℕ) (r : EvcPoc) (first : Call) (later : List Call) (g : FirstI
         are = accepted-yes r first later first-accepted;
         key-length = g .first-length;
         key-layer = g .first-layer;
-        key-number = ap (λ a. numberOf (record { call = first; answer = a; after = step r first .after })) (g .first-number);
+        key-number = rw (g .first-number);
         rest = g .rest;
       }
 

@@ -4,7 +4,7 @@ use mathlib.Core.Path.{_≡_, refl, sym, ap, _∙_, subst}
 use mathlib.Core.Bool.{Bool, true, false, cond}
 use mathlib.Core.List.{List, [], _∷_, map, List·Memᴰ, List·Memᴰ·head, List·Memᴰ·not-nil, List·Memᴰ·cases-cons}
 use mathlib.Core.Logic.{⊎-elim}
-use Prim.Native.Nat.{ℕ, suc, _+_, _-_, _%_, _^_, _≤_, _<_}
+use Prim.Native.Nat.{ℕ, suc, _+_, _-_, _^_, _≤_, _<_}
 use native.Mathlib.Nat.{mod-eq-of-lt, eq-or-lt-of-le}
 use native.Mathlib.Omega.{arith}
 use lib.Dec.{eqb}
@@ -86,7 +86,7 @@ pub record Advance (L p t m d : ℕ) (s : Step) : Type 0 where
 
 module _ (L p t m d : ℕ) (r : EvcPoc) (at : Place p t m d r) where
   pub next-offset : d + 1 < 2 ^ L → nextOffset L r ≡ d + 1
-  next-offset h = ap (λ z. (offsetOf z + 1) % 2 ^ L) (at .offset) ∙ mod-eq-of-lt h
+  next-offset h = rw (at .offset) (mod-eq-of-lt h)
 
   pub next-previous : d + 1 < 2 ^ L → nextPrevious L r ≡ p
   next-previous h = rw (next-offset h, ne-eqb (d + 1) 0 (omega arith)) (at .previous)
@@ -98,13 +98,15 @@ module _ (L p t m d : ℕ) (r : EvcPoc) (at : Place p t m d r) where
         a
         ∙ ap (λ x. stepOf c x)
         (accepted-is c L (c .layer) r (ap isAccepted (sym a) ∙ ok)
-        ∙ ap (λ b. cond b (derived (pos (r .«prev_poc_val» + 2 ^ L)) (r .«prev_poc_val» + 2 ^ L) 0) (found (nextPrevious L r) (offsetFrom L (c .layer) (nextOffset L r))))
+        ∙ ap
+        (λ b. cond b (derived (pos (r .«prev_poc_val» + 2 ^ L)) (r .«prev_poc_val» + 2 ^ L) 0)
+        (found (nextPrevious L r) (offsetFrom L (c .layer) (nextOffset L r))))
         (ne-eqb (c .layer) 0 (omega arith))
         ∙ ap (λ v. found v (offsetFrom L (c .layer) (nextOffset L r))) (next-previous h)
         ∙ ap (λ x. found p x) (ap (λ x. offsetFrom L (c .layer) x) (next-offset h) ∙ q))
       where
         a : step r c ≡ stepOf c (derive L (c .layer) r)
-        a = ap (λ k. stepOf c (derive k (c .layer) r)) len
+        a = rw len
 
         found : ℕ → ℕ → Derivation
         found v x = derived (number v L (c .layer) x) v x
@@ -136,7 +138,8 @@ module _ (L p t m d : ℕ) (r : EvcPoc) (at : Place p t m d r) where
         let q = ap (λ (x : ℕ). 2 ^ x) e in
         let v = ap (λ (x : ℕ). 2 ^ (x - 1)) e in
         let l : Layer (c .layer) (d + 1) = record { low = omega arith; high = omega arith } in
-        advance (d + 1) (m - 1) (omega arith) (offsetFrom-here L (c .layer) above most (d + 1) l) l (omega arith) (omega arith) (λ _. omega arith) (λ b. absurd (omega arith))
+        advance (d + 1) (m - 1) (omega arith) (offsetFrom-here L (c .layer) above most (d + 1) l) l (omega arith) (omega arith)
+        (λ _. omega arith) (λ b. absurd (omega arith))
 
     -- the first of a higher layer
     higher-layer : t < c .layer → Advance L p t m d (step r c)

@@ -8,7 +8,7 @@ use Prim.Native.Nat.{ℕ, _-_, _≤_, _<_}
 use native.Mathlib.Omega.{arith}
 use lib.IntN.{ℤ, pos}
 use lib.Pow.{pow-pos}
-use Rattle.seq.specs.Lists.{select, Distinct}
+use Rattle.seq.specs.Lists.{Distinct}
 use Rattle.seq.proofs.Members.{mem-unmap, select-append, holds-tail}
 use Rattle.seq.proofs.Distinct.{distinct-append}
 use Rattle.def.specs.declared.EvcPoc.{EvcPoc}
@@ -28,7 +28,7 @@ run-append r (c ∷ cs) ds = ap {B = List Step} (λ l. step r c ∷ l) (run-appe
 
 pub accepted-append : (r : EvcPoc) (cs ds : List Call) → acceptedSteps r (cs ++ ds) ≡ acceptedSteps r cs ++ acceptedSteps (leaves r cs) ds
 unfolding acceptedSteps
-accepted-append r cs ds = ap (λ l. select isAccepted l) (run-append r cs ds) ∙ select-append isAccepted (run r cs) (run (leaves r cs) ds)
+accepted-append r cs ds = rw (run-append r cs ds) (select-append isAccepted (run r cs) (run (leaves r cs) ds))
 
 -- where every accepted call keeps the previous number, the list does
 leaves-previous : (p : ℕ) (cs : List Call) (r : EvcPoc) → r .«prev_poc_val» ≡ p
@@ -48,7 +48,7 @@ leaves-previous p (c ∷ cs) r e kept = pick (isAccepted (step r c)) refl (leave
         let q = refused-keeps c (c .log2) (c .layer) r t in
         below (ap (λ x. x .«prev_poc_val») q ∙ e)
         (subst (λ (l : List Step). (s : Step) → List·Memᴰ s l → s .after .«prev_poc_val» ≡ p)
-        (accepted-no r c cs t ∙ sym (ap (λ x. acceptedSteps x cs) q)) kept)
+        (accepted-no r c cs t ∙ sym (rw q)) kept)
 
 -- ---- one sub-group
 
@@ -98,7 +98,7 @@ module _ {L p : ℕ} {r : EvcPoc} {calls : List Call} (g : SubGroup L p r calls)
 
 numbers-append : (r : EvcPoc) (cs ds : List Call)
     → map numberOf (acceptedSteps r (cs ++ ds)) ≡ map numberOf (acceptedSteps r cs) ++ map numberOf (acceptedSteps (leaves r cs) ds)
-numbers-append r cs ds = ap (λ l. map numberOf l) (accepted-append r cs ds) ∙ map-append numberOf (acceptedSteps r cs) (acceptedSteps (leaves r cs) ds)
+numbers-append r cs ds = rw (accepted-append r cs ds) (map-append numberOf (acceptedSteps r cs) (acceptedSteps (leaves r cs) ds))
 
 -- every number of a clip lies above the previous number that it starts from
 clip-above : {r : EvcPoc} {calls : List Call} → Clip r calls → (n : ℤ) → List·Memᴰ n (map numberOf (acceptedSteps r calls))

@@ -40,12 +40,12 @@ pub sub-add : (a b k : ℕ) → subℕ a b +ℤ pos k ≡ subℕ (a + k) b
 sub-add a b k = ⊎-elim below above (lt-or-ge a b)
   where
     below : a < b → subℕ a b +ℤ pos k ≡ subℕ (a + k) b
-    below h = ap (λ z. z +ℤ pos k) (sub-neg a b h) ∙ sub-same k (suc (b - suc a)) (a + k) b (omega arith)
+    below h = rw (sub-neg a b h) (sub-same k (suc (b - suc a)) (a + k) b (omega arith))
 
     above : b ≤ a → subℕ a b +ℤ pos k ≡ subℕ (a + k) b
     above h =
         let e : a - b + k ≡ a + k - b = omega arith in
-        ap (λ z. z +ℤ pos k) (sub-pos a b h) ∙ ap pos e ∙ sym (sub-pos (a + k) b (omega arith))
+        rw (sub-pos a b h) (ap pos e ∙ sym (sub-pos (a + k) b (omega arith)))
 
 -- what was added is taken away again
 pub sub-of : (n : ℤ) (k p : ℕ) → n +ℤ pos k ≡ pos p → n ≡ subℕ p k

@@ -76,9 +76,10 @@ module _ {L p t m d : ℕ} {r : EvcPoc} (short : L ≤ maxLog2) (known : p ≤ m
       more up e = let b = count-yes (eqb t) (c .layer) (map layerOf ss) (eq-eqb t (c .layer) e) in let f = h .of-this in omega arith
 
       a : step r c ≡ stepOf c (derive L (c .layer) r)
-      a = ap (λ k. stepOf c (derive k (c .layer) r)) (h .same-length (step r c) (List·Memᴰ·head refl))
+      a = rw (h .same-length (step r c) (List·Memᴰ·head refl))
 
-all-accepted : (cs : List Call) (L p t m d : ℕ) (r : EvcPoc) → L ≤ maxLog2 → p ≤ maxPoc → Place p t m d r → Rest L t m (run r cs) → acceptedSteps r cs ≡ run r cs
+all-accepted : (cs : List Call) (L p t m d : ℕ) (r : EvcPoc) → L ≤ maxLog2 → p ≤ maxPoc → Place p t m d r → Rest L t m (run r cs)
+    → acceptedSteps r cs ≡ run r cs
 unfolding acceptedSteps run
 all-accepted [] L p t m d r short known at h = refl
 all-accepted (c ∷ cs) L p t m d r short known at h =
@@ -110,7 +111,8 @@ rising-lower m n (x ∷ ns) l h = let a = h .0 in (omega arith, h .1)
 layers-rise : (k n : ℕ) → Rising (suc k ∷ layersFrom k n)
 unfolding Rising layersFrom
 layers-rise k zero = tt
-layers-rise k (suc n) = rising-more (2 ^ k) (suc k) (layersFrom (suc k) n) (rising-lower (suc k) (suc (suc k)) (layersFrom (suc k) n) (omega arith) (layers-rise (suc k) n))
+layers-rise k (suc n) =
+    rising-more (2 ^ k) (suc k) (layersFrom (suc k) n) (rising-lower (suc k) (suc (suc k)) (layersFrom (suc k) n) (omega arith) (layers-rise (suc k) n))
 
 rising-tail : (n : ℕ) (ns : List ℕ) → Rising (n ∷ ns) → Rising ns
 unfolding Rising
@@ -184,13 +186,14 @@ module _ (L : ℕ) (r : EvcPoc) where
   full-lengths : (s : Step) → List·Memᴰ s (run r (fullRun L)) → s .call .log2 ≡ L
   full-lengths s m =
       let u = mem-unmap (callOf L) (fullLayers L) (rw (run-calls (fullRun L) r) at (Memᴰ·map (λ (x : Step). x .call) m)) in
-      ap (λ c. c .log2) (u .2)
+      rw (u .2)
 
   full-meets : LaterCalls L (run r (fullRun L))
   full-meets =
       record {
         same-length = full-lengths;
-        layers = λ s m. let w = layers-within 0 L (layerOf s) (rw (run-layers L (fullLayers L) r) at (Memᴰ·map layerOf m)) in let x = w .1 in (w .0, omega arith);
+        layers =
+            λ s m. let w = layers-within 0 L (layerOf s) (rw (run-layers L (fullLayers L) r) at (Memᴰ·map layerOf m)) in let x = w .1 in (w .0, omega arith);
         never-fall = rw (run-layers L (fullLayers L) r) (rising-tail 1 (fullLayers L) (layers-rise 0 L));
         at-most = λ t. rw (run-layers L (fullLayers L) r) (layers-count 0 L t);
       }

@@ -81,7 +81,8 @@ module _ (L t d : ℕ) (above : 1 ≤ t) (most : t ≤ L) (l : Layer t d) where
       let a = l .low in
       let b = l .high in
       let c = twice t above in
-      rw (length-split L t most) (let h : (2 * (d - 2 ^ (t - 1)) + 1) * 2 ^ (L - t) < 2 ^ t * 2 ^ (L - t) = mul-lt-mul-of-pos-right (omega arith) (pow-pos (L - t)) in omega arith)
+      rw (length-split L t most)
+      (let h : (2 * (d - 2 ^ (t - 1)) + 1) * 2 ^ (L - t) < 2 ^ t * 2 ^ (L - t) = mul-lt-mul-of-pos-right (omega arith) (pow-pos (L - t)) in omega arith)
 
 pub layer-of : {L p t d : ℕ} {n : ℤ} → Origin L p n t d → Layer t d
 layer-of o = record { low = o .offset-low; high = o .offset-high }

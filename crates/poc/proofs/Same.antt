@@ -12,8 +12,10 @@ use borrow.Author.Tests.{lt-ltb, ltb-false, eqb-true, eqb-false, eq-eqb, ne-eqb}
 use Rattle.def.specs.Binary.{floorLog2}
 use Rattle.def.specs.declared.EvcPoc.{EvcPoc}
 use Rattle.def.specs.declared.Refusal.the-variants.{BadLayer, BadRecord}
-use Rattle.poc.specs.PictureNumber.{derive, inLayer, seek, offsetFrom, number, badLayer, badRecord, derivationRefused, settled, nextOffset, nextPrevious, keyPicture, otherPicture}
-use Rattle.poc.specs.Standard.{standard, StandardAgrees, StandardExact, StandardFound, expectedTemporalId, whileUnexpected, pocOffset, wholePart, docOffset, temporalZero, temporalAbove}
+use Rattle.poc.specs.PictureNumber.{derive, inLayer, seek, offsetFrom, number, badLayer, badRecord, derivationRefused, settled}
+use Rattle.poc.specs.PictureNumber.{nextOffset, nextPrevious, keyPicture, otherPicture}
+use Rattle.poc.specs.Standard.{standard, StandardAgrees, StandardExact, StandardFound, expectedTemporalId, whileUnexpected, pocOffset}
+use Rattle.poc.specs.Standard.{wholePart, docOffset, temporalZero, temporalAbove}
 use Rattle.poc.proofs.Differences.{minus, sub-neg, sub-same}
 use Rattle.poc.proofs.Offset.{Layer, length-split, inLayer-true, offsetFrom-lands}
 use Rattle.poc.proofs.Seek.{twice, expected-digits, layer-digits, seek-settled}
@@ -82,7 +84,7 @@ module _ (L t d : ℕ) (above : 1 ≤ t) (most : t ≤ L) (l : Layer t d) where
       ∙ whole-negative (short * 2 ^ (L - t)) (2 ^ t) (mul-pos short-above (pow-pos (L - t))) (pow-pos t)
 
   exact : wholePart (pocOffset (2 ^ L) t d) *ℤ pos (2 ^ t) ≡ pocOffset (2 ^ L) t d .num
-  exact = ap (λ z. z *ℤ pos (2 ^ t)) whole-part ∙ neg-times (short * 2 ^ (L - t)) (2 ^ t) ∙ sym numerator
+  exact = rw whole-part (neg-times (short * 2 ^ (L - t)) (2 ^ t) ∙ sym numerator)
 
   same-number : (p : ℕ) → pos p +ℤ wholePart (pocOffset (2 ^ L) t d) ≡ number p L t d
   same-number p =
@@ -138,7 +140,8 @@ standard-agrees L t r = layer (badLayer L t) refl
     held false h = zero-or (eqb t 0) refl h
 
     layer : (b : Bool) → badLayer L t ≡ b
-        → cond b (derivationRefused BadLayer r) (cond (badRecord r) (derivationRefused BadRecord r) (cond (eqb t 0) (temporalZero (2 ^ L) r) (temporalAbove (2 ^ L) t r)))
+        → cond b (derivationRefused BadLayer r)
+        (cond (badRecord r) (derivationRefused BadRecord r) (cond (eqb t 0) (temporalZero (2 ^ L) r) (temporalAbove (2 ^ L) t r)))
         ≡ cond b (derivationRefused BadLayer r) (cond (badRecord r) (derivationRefused BadRecord r) (cond (eqb t 0) (keyPicture L r) (otherPicture L t r)))
     layer true e = refl
     layer false e = held (badRecord r) (layer-within L t e .1)

@@ -1,6 +1,6 @@
 -- The layer of an offset is how many binary digits it has; the search, step by step.
 -- Assumes nothing.
-use mathlib.Core.Path.{_≡_, refl, sym, ap, _∙_, subst}
+use mathlib.Core.Path.{_≡_, refl, sym, _∙_, subst}
 use mathlib.Core.Bool.{Bool, true, false}
 use Prim.Native.Nat.{ℕ, zero, suc, _+_, _-_, _*_, _%_, _^_, _≤_, _<_}
 use native.Mathlib.Omega.{arith}
@@ -27,7 +27,7 @@ expected-digits (suc d) = rw (ne-eqb (suc d) 0 (λ e. omega arith)) (has-digits 
 pub layer-digits : (t d : ℕ) → 1 ≤ t → inLayer t d ≡ eqb (size d) t
 unfolding inLayer floorLog2 size
 layer-digits t zero h = sym (ne-eqb 0 t (λ e. omega arith))
-layer-digits t (suc d) h = rw (lt-ltb 0 (suc d) (omega arith)) (ap (λ (x : ℕ). eqb x t) (has-digits (suc d) (omega arith)))
+layer-digits t (suc d) h = rw (lt-ltb 0 (suc d) (omega arith), has-digits (suc d) (omega arith))
 
 -- an offset of the layer lies from 2^(t-1) to 2^t - 1
 pub layer-bounds : (t d : ℕ) → 1 ≤ t → inLayer t d ≡ true → (2 ^ (t - 1) ≤ d) × (d < 2 ^ t)

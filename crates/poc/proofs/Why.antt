@@ -1,5 +1,5 @@
 -- A derivation by cases, and from them why it is turned down. Assumes nothing.
-use mathlib.Core.Path.{_≡_, refl, sym, ap, subst}
+use mathlib.Core.Path.{_≡_, refl, sym, subst}
 use mathlib.Core.Bool.{Bool, true, false, cond, not, _||_}
 use mathlib.Core.Logic.{inl, inr}
 use Prim.Native.Nat.{ℕ, _+_, _^_, _≤_, _<_}
@@ -14,9 +14,11 @@ use Rattle.def.specs.declared.Refusal.{Refusal}
 use Rattle.def.specs.declared.Refusal.the-variants.{BadLayer, BadRecord, NumberTooHigh}
 use Rattle.poc.specs.declared.PocAnswer.the-variants.{Refused}
 use Rattle.poc.specs.declared.Derivation.{Derivation}
-use Rattle.poc.specs.PictureNumber.{derive, number, tooHigh, offsetFits, offsetOf, offsetFrom, badRecord, derivationRefused, keyPicture, otherPicture, nextOffset, nextPrevious, maxPoc, maxLog2, maxDocOffset}
+use Rattle.poc.specs.PictureNumber.{derive, number, tooHigh, offsetFits, offsetOf, offsetFrom, badRecord, derivationRefused}
+use Rattle.poc.specs.PictureNumber.{keyPicture, otherPicture, nextOffset, nextPrevious, maxPoc, maxLog2, maxDocOffset}
 use Rattle.poc.specs.Domain.{Checked}
-use Rattle.poc.specs.Why.{LayerIsBad, OffsetIsBad, negative, too-large, RecordIsBad, NumberIsTooHigh, derived-number, grown-previous, Refusing, is-bad-layer, is-bad-record, is-too-high, DeriveWhy, DeriveRefused}
+use Rattle.poc.specs.Why.{LayerIsBad, OffsetIsBad, negative, too-large, RecordIsBad, NumberIsTooHigh, derived-number, grown-previous}
+use Rattle.poc.specs.Why.{Refusing, is-bad-layer, is-bad-record, is-too-high, DeriveWhy, DeriveRefused}
 use Rattle.poc.proofs.Answers.{derived}
 use Rattle.poc.proofs.Settled.{settled-high, settled-fits, sum-low}
 use Rattle.poc.proofs.Offset.{offsetFrom-lands}
@@ -78,8 +80,9 @@ module _ (L t : ℕ) (r : EvcPoc) where
             apart (grown-previous z w l) = let a = ltb-false maxPoc (r .«prev_poc_val» + 2 ^ L) k in omega arith
 
         pick : (b : Bool) → eqb (nextOffset L r) 0 ≡ b → Derives L t r (otherPicture L t r)
-        pick true e = wrapped (eqb-true _ 0 e) (ap (λ b. cond b (r .«prev_poc_val» + 2 ^ L) (r .«prev_poc_val»)) e) (ltb maxPoc (r .«prev_poc_val» + 2 ^ L)) refl
-        pick false e = fit _ (ap (λ b. cond b (r .«prev_poc_val» + 2 ^ L) (r .«prev_poc_val»)) e) (h .previous) apart
+        pick true e =
+            wrapped (eqb-true _ 0 e) (rw e) (ltb maxPoc (r .«prev_poc_val» + 2 ^ L)) refl
+        pick false e = fit _ (rw e) (h .previous) apart
           where
             apart : NumberIsTooHigh L t r → ⊥
             apart (derived-number z l) = omega arith
@@ -107,7 +110,8 @@ module _ (L t : ℕ) (r : EvcPoc) where
     offset-tested (negsuc d) e false f p = bad-record short layer (inr (subst OffsetIsBad (sym e) (negative d)))
 
     tested : (b : Bool) → ltb maxPoc (r .«prev_poc_val») ≡ b
-        → Derives L t r (cond (b || not (offsetFits (r .«prev_doc_offset» .0))) (derivationRefused BadRecord r) (cond (eqb t 0) (keyPicture L r) (otherPicture L t r)))
+        → Derives L t r
+        (cond (b || not (offsetFits (r .«prev_doc_offset» .0))) (derivationRefused BadRecord r) (cond (eqb t 0) (keyPicture L r) (otherPicture L t r)))
     tested true e = bad-record short layer (inl (ltb-true maxPoc _ e))
     tested false e = offset-tested (r .«prev_doc_offset» .0) refl (offsetFits (r .«prev_doc_offset» .0)) refl (ltb-false maxPoc _ e)
 
@@ -116,7 +120,9 @@ module _ (L t : ℕ) (r : EvcPoc) where
   derives = pick (ltb maxLog2 L) refl (ltb L t) refl
     where
       pick : (a : Bool) → ltb maxLog2 L ≡ a → (b : Bool) → ltb L t ≡ b
-          → Derives L t r (cond (a || b) (derivationRefused BadLayer r) (cond (badRecord r) (derivationRefused BadRecord r) (cond (eqb t 0) (keyPicture L r) (otherPicture L t r))))
+          → Derives L t r
+          (cond (a || b) (derivationRefused BadLayer r)
+          (cond (badRecord r) (derivationRefused BadRecord r) (cond (eqb t 0) (keyPicture L r) (otherPicture L t r))))
       pick true e b f = bad-layer (inl (ltb-true maxLog2 L e))
       pick false e true f = bad-layer (inr (ltb-true L t f))
       pick false e false f = tested (ltb-false maxLog2 L e) (ltb-false L t f) (ltb maxPoc (r .«prev_poc_val»)) refl

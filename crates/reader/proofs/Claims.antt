@@ -5,7 +5,6 @@ use native.Mathlib.Omega.{arith}
 use mathlib.Core.Path.{_≡_, refl, sym, ap, _∙_}
 use mathlib.Core.Bool.{Bool, true, false}
 use mathlib.Core.List.{List, [], _∷_, _++_, map, flatMap}
-use mathlib.Core.Option.{Option}
 use lib.Dec.{ltb}
 use lib.ListN.{length, drop, length-drop, length-append, drop-of-length-le}
 use lib.Seq.{drop-drop, drop-at, take-at, append-snoc, length-take-le}
@@ -47,7 +46,7 @@ a-line at AnswerLine.Bad = refl
 module _ (buffer : List ℕ) where
   none-left : (at : ℕ) → length buffer ≤ at → (place : ℕ) → readsOf place (linesFrom [] (drop at buffer)) ≡ []
   unfolding linesFrom readsOf
-  none-left at h place = ap (λ (l : List ℕ). readsOf place (linesFrom [] l)) (drop-of-length-le buffer {i = at} h)
+  none-left at h place = rw (drop-of-length-le buffer {i = at} h)
 
   -- What the reader has still to give after n readings are what the lines from there on say, if it is so after one line more.
   one-more : (n at : ℕ) → ((at : ℕ) → at ≤ length buffer → length buffer ≤ at + n → readsFrom n buffer at ≡ readsOf at (linesFrom [] (drop at buffer)))
@@ -55,14 +54,17 @@ module _ (buffer : List ℕ) where
   unfolding readsFrom readsOf answerAt afterLine
   one-more n at again h k = by (ltb at (length buffer)) refl
     where
-      rest : at < length buffer → readsFrom n buffer (afterLine buffer at) ≡ readsOf (at + length (lineAt buffer at) + 1) (linesFrom [] (drop (suc (lowest isNewline (drop at buffer))) (drop at buffer)))
+      rest : at < length buffer
+          → readsFrom n buffer (afterLine buffer at)
+          ≡ readsOf (at + length (lineAt buffer at) + 1) (linesFrom [] (drop (suc (lowest isNewline (drop at buffer))) (drop at buffer)))
       rest l = go (ltb (lineEnd buffer at) (length buffer)) refl
         where
           wide : length (lineAt buffer at) ≡ lowest isNewline (drop at buffer)
           wide = length-take-le (lowest isNewline (drop at buffer)) (drop at buffer) (lowest-le 0 isNewline (drop at buffer))
 
           go : (b : Bool) → ltb (lineEnd buffer at) (length buffer) ≡ b
-              → readsFrom n buffer (afterLine buffer at) ≡ readsOf (at + length (lineAt buffer at) + 1) (linesFrom [] (drop (suc (lowest isNewline (drop at buffer))) (drop at buffer)))
+              → readsFrom n buffer (afterLine buffer at)
+              ≡ readsOf (at + length (lineAt buffer at) + 1) (linesFrom [] (drop (suc (lowest isNewline (drop at buffer))) (drop at buffer)))
           go true e =
               let inside = ltb-true (lineEnd buffer at) (length buffer) e in
               let next : afterLine buffer at ≡ lineEnd buffer at + 1 = rw (lt-ltb at (length buffer) l, e) in
@@ -70,7 +72,8 @@ module _ (buffer : List ℕ) where
               ap (readsFrom n buffer) next
               ∙ again (lineEnd buffer at + 1) (omega arith) (omega arith)
               ∙ sym (ap (λ (m : ℕ). readsOf (at + m + 1) (linesFrom [] (drop (suc (lowest isNewline (drop at buffer))) (drop at buffer)))) wide
-              ∙ ap (λ (cs : List ℕ). readsOf (lineEnd buffer at + 1) (linesFrom [] cs)) (drop-drop (suc (lowest isNewline (drop at buffer))) at buffer ∙ ap (λ (i : ℕ). drop i buffer) one))
+              ∙ ap (λ (cs : List ℕ). readsOf (lineEnd buffer at + 1) (linesFrom [] cs))
+              (drop-drop (suc (lowest isNewline (drop at buffer))) at buffer ∙ ap (λ (i : ℕ). drop i buffer) one))
           go false e =
               let outside = ltb-false (lineEnd buffer at) (length buffer) e in
               let d = length-drop at buffer in
@@ -79,7 +82,9 @@ module _ (buffer : List ℕ) where
               ap (readsFrom n buffer) next
               ∙ again (lineEnd buffer at) (omega arith) (omega arith)
               ∙ none-left (lineEnd buffer at) outside (lineEnd buffer at)
-              ∙ sym (ap (λ (cs : List ℕ). readsOf (at + length (lineAt buffer at) + 1) (linesFrom [] cs)) (drop-drop (suc (lowest isNewline (drop at buffer))) at buffer)
+              ∙ sym
+              (ap (λ (cs : List ℕ). readsOf (at + length (lineAt buffer at) + 1) (linesFrom [] cs))
+              (drop-drop (suc (lowest isNewline (drop at buffer))) at buffer)
               ∙ none-left (at + suc (lowest isNewline (drop at buffer))) (omega arith) (at + length (lineAt buffer at) + 1))
 
       by : (b : Bool) → ltb at (length buffer) ≡ b → readsFrom (suc n) buffer at ≡ readsOf at (linesFrom [] (drop at buffer))
@@ -89,7 +94,11 @@ module _ (buffer : List ℕ) where
       by true e =
           let l = ltb-true at (length buffer) e in
           let here : answerAt buffer at ≡ readLineAs at (lineAt buffer at) = rw e in
-          rw (here, a-line at (answerFor (fromLine answerKind (lineAt buffer at))), rest l) (sym (ap (readsOf at) (first-line [] (drop at buffer) (omega (arith, length-drop at buffer)))))
+          rw (
+            here,
+            a-line at (answerFor (fromLine answerKind (lineAt buffer at))),
+            rest l,
+          ) (sym (ap (readsOf at) (first-line [] (drop at buffer) (omega (arith, length-drop at buffer)))))
 
   from-place : (n at : ℕ) → at ≤ length buffer → length buffer ≤ at + n → readsFrom n buffer at ≡ readsOf at (linesFrom [] (drop at buffer))
   unfolding readsFrom
@@ -113,7 +122,8 @@ answer-first r rest f =
     let low : lowest isNewline cs ≡ length ds = framed-end (replyBytes r) rest (answers-lawful .bytes r f) in
     let long = length-append ds (newline ∷ rest) in
     let behind : drop (suc (length ds)) cs ≡ rest =
-    ap (drop (suc (length ds))) (sym (append-snoc ds newline rest)) ∙ drop-at (ds ++ (newline ∷ [])) rest (suc (length ds)) (omega (arith, length-append ds (newline ∷ []))) in
+    ap (drop (suc (length ds))) (sym (append-snoc ds newline rest))
+    ∙ drop-at (ds ++ (newline ∷ [])) rest (suc (length ds)) (omega (arith, length-append ds (newline ∷ []))) in
     ap (linesFrom []) (append-snoc ds newline rest)
     ∙ first-line [] cs (omega arith)
     ∙ rw (low, take-at ds (newline ∷ rest) (length ds) refl, behind)
@@ -121,11 +131,11 @@ answer-first r rest f =
 written-lines : (rs : List Reply) → AllFit rs → linesFrom [] (flatMap answerLine rs) ≡ map answerDigits rs
 unfolding AllFit flatMap linesFrom
 written-lines [] f = refl
-written-lines (r ∷ rs) f = answer-first r (flatMap answerLine rs) (f .0) ∙ ap (λ (ls : List (List ℕ)). answerDigits r ∷ ls) (written-lines rs (f .1))
+written-lines (r ∷ rs) f = rw (written-lines rs (f .1)) at (answer-first r (flatMap answerLine rs) (f .0))
 
 digits-read : (at : ℕ) (r : Reply) → ReplyFits r → readLineAs at (answerDigits r) ≡ Read.Answer r
 unfolding answerDigits answerKind
-digits-read at r f = ap (λ (o : Option Reply). readFor at (answerFor o)) (answers-faithful .reads-back r f)
+digits-read at r f = rw (answers-faithful .reads-back r f)
 
 read-back : (rs : List Reply) (at : ℕ) → AllFit rs → readsOf at (map answerDigits rs) ≡ map Read.Answer rs
 unfolding AllFit readsOf

@@ -37,10 +37,14 @@ record Came (s : Speaker) (given : Texts) (f : Fed) : Type 0 where
   stands : s ≡ f .speaker
   gave : given ≡ f .texts
 
-told-came : (kind : Kind) (held : List ℕ) (spot : Spot) (piece out err : List ℕ) (r : Spoken) (held′ out′ err′ : List ℕ) → ToldPiece kind held spot piece out err r held′ out′ err′
+told-came : (kind : Kind) (held : List ℕ) (spot : Spot) (piece out err : List ℕ) (r : Spoken) (held′ out′ err′ : List ℕ)
+    → ToldPiece kind held spot piece out err r held′ out′ err′
     → Came (speakerIn held′ (r .spot)) (texts (take (r .out) out′) (take (r .err) err′)) (feed kind (speakerIn held spot) piece)
 told-came kind held spot piece out err r held′ out′ err′ t =
-    record { stands = t .speaker-is; gave = rw (front-taken out _ out′ (r .out) (t .to-out) (t .out-fits), front-taken err _ err′ (r .err) (t .to-err) (t .err-fits)) }
+    record {
+      stands = t .speaker-is;
+      gave = rw (front-taken out _ out′ (r .out) (t .to-out) (t .out-fits), front-taken err _ err′ (r .err) (t .to-err) (t .err-fits));
+    }
 
 module _ (kind : Kind) (held : List ℕ) (spot : Spot) (out err : List ℕ) (t : Handed) (held′ piece′ out′ err′ : List ℕ) where
   abbrev Turn : Type 0
@@ -49,7 +53,7 @@ module _ (kind : Kind) (held : List ℕ) (spot : Spot) (out err : List ℕ) (t :
   idle-came : Idle held spot t held′ → clamped (t .heard .got) (length piece′) ≡ 0 → Turn
   unfolding feed
   idle-came i e =
-      let same : t .spoken ≡ record { spot = spot; out = 0; err = 0 } = ap (λ (h : Handed). h .spoken) (i .handed) in
+      let same : t .spoken ≡ record { spot = spot; out = 0; err = 0 } = rw (i .handed) in
       rw (i .same-held, same, e) (record { stands = refl; gave = refl })
 
   turn-came : (w : Went) → Turned w kind held spot out err t held′ piece′ out′ err′ → Turn
@@ -59,22 +63,25 @@ module _ (kind : Kind) (held : List ℕ) (spot : Spot) (out err : List ℕ) (t :
   turn-came ReadFailed i = idle-came (i .0) (nothing-failed (t .heard .got) (length piece′) (i .1))
 
 -- One part behind the other.
-came-then : (kind : Kind) (s : Speaker) (a b : List ℕ) (s₁ s₂ : Speaker) (given more : Texts) → Came s₁ given (feed kind s a) → Came s₂ more (feed kind s₁ b)
+came-then : (kind : Kind) (s : Speaker) (a b : List ℕ) {s₁ s₂ : Speaker} {given more : Texts} → Came s₁ given (feed kind s a)
+    → Came s₂ more (feed kind s₁ b)
     → Came s₂ (joined given more) (feed kind s (a ++ b))
-came-then kind s a b s₁ s₂ given more p q =
+came-then kind s a b {s₁} {s₂} {given} {more} p q =
     let at = p .stands in
     let second : Came s₂ more (feed kind (feed kind s a .speaker) b) = subst (λ (x : Speaker). Came s₂ more (feed kind x b)) at q in
     rw (feed-append kind s a b)
-    (record { stands = second .stands; gave = ap (λ (t : Texts). joined t more) (p .gave) ∙ ap (joined (feed kind s a .texts)) (second .gave) })
+    (record { stands = second .stands; gave = rw (p .gave) (ap (joined (feed kind s a .texts)) (second .gave)) })
 
-turns-came : (kind : Kind) (held : List ℕ) (spot : Spot) {n : ℕ} {input held′ out′ err′ : List ℕ} {given : Texts} {t : Handed} → Turns kind held spot n input given t held′ out′ err′
+turns-came : (kind : Kind) (held : List ℕ) (spot : Spot) {n : ℕ} {input held′ out′ err′ : List ℕ} {given : Texts} {t : Handed}
+    → Turns kind held spot n input given t held′ out′ err′
     → Came (speakerIn held′ (t .spoken .spot)) given (feed kind (speakerIn held spot) input)
 turns-came kind held spot {t = t} (one-turn out err piece′ turned) = turn-came kind held spot out err t _ piece′ _ _ (t .went) turned
 turns-came kind held spot {t = t} (next-turn piece″ before on turned) =
-    came-then kind (speakerIn held spot) _ _ _ _ _ _ (turns-came kind held spot before) (turn-came kind _ _ _ _ t _ piece″ _ _ (t .went) turned)
+    came-then kind (speakerIn held spot) _ _ (turns-came kind held spot before) (turn-came kind _ _ _ _ t _ piece″ _ _ (t .went) turned)
 
 -- A last line is told as if it had its newline.
-last-told : (kind : Kind) (line : List ℕ) (number len : ℕ) → length line ≡ len → feed kind (speaker line number) (lastNewline len) .texts ≡ lastTexts kind (speaker line number)
+last-told : (kind : Kind) (line : List ℕ) (number len : ℕ) → length line ≡ len
+    → feed kind (speaker line number) (lastNewline len) .texts ≡ lastTexts kind (speaker line number)
 unfolding feed toldLines
 last-told kind [] number len e = rw (eq-eqb len 0 (sym e))
 last-told kind (c ∷ cs) number len e = rw (ne-eqb len 0 (λ f. omega arith))
@@ -87,10 +94,13 @@ relay-tells kind t out′ err′ s =
     let loop = s .looped in
     let came = turns-came kind newHeld newSpot (loop .turns) in
     let keeps = turns-keep kind newSpot (loop .turns) (record { long = refl; fits = omega arith }) in
-    let size : length (take (spot .len) (s .held₁)) ≡ spot .len = length-take-le (spot .len) (s .held₁) (let a = keeps .long in let b = keeps .fits in omega arith) in
+    let size : length (take (spot .len) (s .held₁)) ≡ spot .len =
+    length-take-le (spot .len) (s .held₁) (let a = keeps .long in let b = keeps .fits in omega arith) in
     let end = told-came kind (s .held₁) spot (lastNewline (spot .len)) (s .out₁) (s .err₁) (t .spoken) (s .held₂) out′ err′ (s .ended .told) in
     let rest = end .gave ∙ last-told kind (take (spot .len) (s .held₁)) (spot .number) (spot .len) size ∙ ap (lastTexts kind) (came .stands) in
-    ap (joined (loop .given)) rest ∙ ap (λ (x : Texts). joined x (lastTexts kind (feed kind (speaker [] 1) (loop .input) .speaker))) (came .gave) ∙ feed-lines kind (loop .input) [] 1
+    ap (joined (loop .given)) rest
+    ∙ ap (λ (x : Texts). joined x (lastTexts kind (feed kind (speaker [] 1) (loop .input) .speaker))) (came .gave)
+    ∙ feed-lines kind (loop .input) [] 1
 
 pub relay-begins : RelayBegins
 unfolding toldInput

@@ -30,7 +30,9 @@ said-long number line h = rw (other-length line h)
 
 -- A line longer than what is kept is bad, and so is what is kept of it.
 pub told-kept : (kind : Kind) (number : ℕ) (line : List ℕ) → told kind number (take kept line) ≡ told kind number line
-told-kept kind number line = ⊎-elim (λ (h : length line < kept). ap (told kind number) (take-all kept line (omega arith))) (λ (h : kept ≤ length line). long kind h) (lt-or-ge (length line) kept)
+told-kept kind number line =
+    ⊎-elim (λ (h : length line < kept). ap (told kind number) (take-all kept line (omega arith))) (λ (h : kept ≤ length line). long kind h)
+    (lt-or-ge (length line) kept)
   where
     long-line : kept ≤ length line → 1023 < length (take kept line)
     long-line h = let e = length-take-le kept line h in omega arith
@@ -39,12 +41,12 @@ told-kept kind number line = ⊎-elim (λ (h : length line < kept). ap (told kin
     long Kind.Ask h = asked-long number (take kept line) (long-line h) ∙ sym (asked-long number line (omega arith))
     long Kind.Say h =
         let e = length-take-le kept line h in
-        ap (λ (l : List ℕ). texts l []) (said-long number (take kept line) (λ f. omega arith) ∙ sym (said-long number line (λ f. omega arith)))
+        rw (said-long number (take kept line) (λ f. omega arith) ∙ sym (said-long number line (λ f. omega arith)))
 
 take-more : (k : ℕ) (l cs : List ℕ) → take k (take k l ++ cs) ≡ take k (l ++ cs)
 take-more zero l cs = refl
 take-more (suc k) [] cs = refl
-take-more (suc k) (x ∷ l) cs = ap (λ (t : List ℕ). x ∷ t) (take-more k l cs)
+take-more (suc k) (x ∷ l) cs = rw (take-more k l cs)
 
 pub joined-assoc : (a b c : Texts) → joined (joined a b) c ≡ joined a (joined b c)
 joined-assoc a b c = rw (append-assoc (a .out) (b .out) (c .out), append-assoc (a .err) (b .err) (c .err))
@@ -56,7 +58,7 @@ lastTexts kind s = toldLines kind (s .number) (lastLine (s .line))
 last-kept : (kind : Kind) (number : ℕ) (line : List ℕ) → toldLines kind number (lastLine (take kept line)) ≡ toldLines kind number (lastLine line)
 unfolding toldLines
 last-kept kind number [] = refl
-last-kept kind number (c ∷ cs) = ap (λ (t : Texts). joined t (texts [] [])) (told-kept kind number (c ∷ cs))
+last-kept kind number (c ∷ cs) = rw (told-kept kind number (c ∷ cs))
 
 pub feed-lines : (kind : Kind) (input line : List ℕ) (number : ℕ) →
     let f = feed kind (speaker (take kept line) number) input in
@@ -66,7 +68,9 @@ feed-lines kind [] line number = last-kept kind number line
 feed-lines kind (c ∷ cs) line number = by (isNewline c) (feed-lines kind cs [] (nextNumber number)) (feed-lines kind cs (line ++ (c ∷ [])) number)
   where
     this : Bool → Fed
-    this b = cond b (fed (speaker [] (nextNumber number)) (told kind number (take kept line))) (fed (speaker (take kept (take kept line ++ (c ∷ []))) number) (texts [] []))
+    this b =
+        cond b (fed (speaker [] (nextNumber number)) (told kind number (take kept line)))
+        (fed (speaker (take kept (take kept line ++ (c ∷ []))) number) (texts [] []))
 
     rest : Speaker → Texts
     rest s = let f = feed kind s cs in joined (f .texts) (lastTexts kind (f .speaker))
@@ -80,7 +84,7 @@ feed-lines kind (c ∷ cs) line number = by (isNewline c) (feed-lines kind cs []
         joined-assoc (told kind number (take kept line)) (f .texts) (lastTexts kind (f .speaker))
         ∙ ap (joined (told kind number (take kept line))) p
         ∙ ap (λ (t : Texts). joined t (toldLines kind (nextNumber number) (linesFrom [] cs))) (told-kept kind number line)
-    by false p q = ap (λ (l : List ℕ). rest (speaker l number)) (take-more kept line (c ∷ [])) ∙ q
+    by false p q = rw (take-more kept line (c ∷ [])) q
 
 pub feed-append : (kind : Kind) (s : Speaker) (a b : List ℕ) →
     let f = feed kind s a in

@@ -57,10 +57,12 @@ module _ (cs : List ℕ) (i : ℕ) where
       by-hex h true e =
           let m = lowest isNewline (drop i cs) in
           let long : length (lineAt cs i) ≡ m = length-take-le m (drop i cs) (lowest-le 0 isNewline (drop i cs)) in
-          let even : length (lineAt cs i) % 2 ≡ 0 = eqb-true (length (lineAt cs i) % 2) 0 (and-right (allOf isDigit (lineAt cs i)) (eqb (length (lineAt cs i) % 2) 0) e) in
+          let even : length (lineAt cs i) % 2 ≡ 0 =
+          eqb-true (length (lineAt cs i) % 2) 0 (and-right (allOf isDigit (lineAt cs i)) (eqb (length (lineAt cs i) % 2) 0) e) in
           let half : m ≡ 2 * (m / 2) = omega arith in
           let inside : m < length (drop i cs) = omega (arith, length-drop i cs) in
-          let digits : allOf isDigit (take (2 * (m / 2)) (drop i cs)) ≡ true = rw (← half) (and-left (allOf isDigit (lineAt cs i)) (eqb (length (lineAt cs i) % 2) 0) e) in
+          let digits : allOf isDigit (take (2 * (m / 2)) (drop i cs)) ≡ true =
+          rw (← half) (and-left (allOf isDigit (lineAt cs i)) (eqb (length (lineAt cs i) % 2) 0) e) in
           let ends : isNewline (getD cs (i + m) 0) ≡ true = rw (← getD-drop i cs m 0) (lowest-passes 0 isNewline (drop i cs) inside) in
           line (m / 2) (sym (pairs-hex cs i (m / 2) (omega arith)) ∙ digits) (rw (← half) ends)
 
@@ -78,7 +80,9 @@ module _ (cs : List ℕ) (i : ℕ) where
   -- a line of n + 1 bytes is read by its body
   by-body : (n : ℕ) (o : Option Call) → callIn (pairsAt cs i n) ≡ o → sum8 (pairsAt cs i (suc n)) ≡ 0 → callFrom (pairsAt cs i (suc n)) ≡ lineFor o
   by-body n o e s =
-      good-sum (pairsAt cs i (suc n)) (let l = pairs-length cs i (suc n) in omega arith) s ∙ ap (λ (b : List ℕ). lineFor (callIn b)) (body-pairs n) ∙ ap lineFor e
+      good-sum (pairsAt cs i (suc n)) (let l = pairs-length cs i (suc n) in omega arith) s
+      ∙ ap (λ (b : List ℕ). lineFor (callIn b)) (body-pairs n)
+      ∙ ap lineFor e
 
   no-body : (n : ℕ) → callIn (pairsAt cs i n) ≡ none → callFrom (pairsAt cs i (suc n)) ≡ Bad
   no-body n e = by (eqb (sum8 (pairsAt cs i (suc n))) 0) refl
@@ -93,10 +97,10 @@ module _ (cs : List ℕ) (i : ℕ) where
     where
       by : Standing → callAt cs i ≡ LineAt.Other
       by (other s) = s
-      by (line zero p l) = found zero p l ∙ ap (λ (r : Line). wholeLine r (i + 2 * zero + 1)) (no-bytes (pairsAt cs i zero) (pairs-length cs i zero))
+      by (line zero p l) = rw (no-bytes (pairsAt cs i zero) (pairs-length cs i zero)) at (found zero p l)
       by (line (suc n) p l) =
           let end = pairs-end cs i (suc n) p l .0 in
-          found (suc n) p l ∙ ap (λ (r : Line). wholeLine r (i + 2 * suc n + 1)) (no-body n (h n p (omega arith)))
+          rw (no-body n (h n p (omega arith))) at (found (suc n) p l)
 
   -- Where only bodies of n bytes can be calls, the call there is that of a line of n + 1 bytes.
   module _ (n : ℕ) (only : (m : ℕ) → (m ≡ n → ⊥) → callIn (pairsAt cs i m) ≡ none) where
@@ -108,7 +112,8 @@ module _ (cs : List ℕ) (i : ℕ) where
         → callAt cs i ≡ cond (isLineAt cs i (suc n) && ok) (LineAt.Good call next) LineAt.Other
     one-length ok call next e f = by (isLineAt cs i (suc n) && ok) refl
       where
-        fails : arePairs cs i (suc n) ≡ true → isNewline (getD cs (i + 2 * suc n) 0) ≡ true → (isLineAt cs i (suc n) && ok) ≡ false → callFrom (pairsAt cs i (suc n)) ≡ Bad
+        fails : arePairs cs i (suc n) ≡ true → isNewline (getD cs (i + 2 * suc n) 0) ≡ true → (isLineAt cs i (suc n) && ok) ≡ false
+            → callFrom (pairsAt cs i (suc n)) ≡ Bad
         fails p l g = by-sum (eqb (sum8 (pairsAt cs i (suc n))) 0) refl ok refl
           where
             by-sum : (b : Bool) → eqb (sum8 (pairsAt cs i (suc n))) 0 ≡ b → (o : Bool) → ok ≡ o → callFrom (pairsAt cs i (suc n)) ≡ Bad
@@ -121,7 +126,7 @@ module _ (cs : List ℕ) (i : ℕ) where
         by-standing g (line m p l) = by-size (eqb m (suc n)) refl
           where
             by-size : (b : Bool) → eqb m (suc n) ≡ b → callAt cs i ≡ LineAt.Other
-            by-size false s = found m p l ∙ ap (λ (r : Line). wholeLine r (i + 2 * m + 1)) (bad-otherwise m (eqb-false m (suc n) s))
+            by-size false s = rw (bad-otherwise m (eqb-false m (suc n) s)) at (found m p l)
             by-size true s =
                 let z : m ≡ suc n = eqb-true m (suc n) s in
                 found m p l ∙ ap (λ (r : Line). wholeLine r (i + 2 * m + 1)) (ap (λ (k : ℕ). callFrom (pairsAt cs i k)) z ∙ fails (rw z at p) (rw z at l) g)

@@ -25,7 +25,8 @@ use Rattle.scan.proofs.CallsAt.{no-call-at, one-length}
 -- Each kind of call: which line it has at a place that its call byte opens.
 module _ (cs : List ℕ) (i : ℕ) where
   -- a kind with one length
-  kind-at : (call n : ℕ) → ((b : List ℕ) → byteAt b 0 ≡ call → (length b ≡ n → ⊥) → callIn b ≡ none) → Opened cs i call → (m : ℕ) → (m ≡ n → ⊥) → callIn (pairsAt cs i m) ≡ none
+  kind-at : (call n : ℕ) → ((b : List ℕ) → byteAt b 0 ≡ call → (length b ≡ n → ⊥) → callIn b ≡ none) → Opened cs i call → (m : ℕ)
+      → (m ≡ n → ⊥) → callIn (pairsAt cs i m) ≡ none
   unfolding pairsAt callIn
   kind-at call n h o zero ne = refl
   kind-at call n h o (suc m) ne = h (pairsAt cs i (suc m)) (o .call-byte) (λ (e : length (pairsAt cs i (suc m)) ≡ n). ne (sym (pairs-length cs i (suc m)) ∙ e))
@@ -46,16 +47,20 @@ module _ (cs : List ℕ) (i : ℕ) where
       one-length cs i 1 (kind-at 4 1 (λ b e n. rw (e, ne-eqb (length b) 1 n)) o) true OutPic (i + 5) (rw (first-byte 0 o, pairs-length)) (omega arith)
       ∙ rw and-true
 
-  pub init-at : Opened cs i 1 → callAt cs i ≡ cond (isLineAt cs i 4) (LineAt.Good (Init (byteAt (pairsAt cs i 3) 1) (byteAt (pairsAt cs i 3) 2)) (i + 9)) LineAt.Other
+  pub init-at : Opened cs i 1
+      → callAt cs i ≡ cond (isLineAt cs i 4) (LineAt.Good (Init (byteAt (pairsAt cs i 3) 1) (byteAt (pairsAt cs i 3) 2)) (i + 9)) LineAt.Other
   unfolding callIn
   init-at o =
-      one-length cs i 3 (kind-at 1 3 (λ b e n. rw (e, ne-eqb (length b) 3 n)) o) true (Init (byteAt (pairsAt cs i 3) 1) (byteAt (pairsAt cs i 3) 2)) (i + 9) (rw (first-byte 2 o, pairs-length)) (omega arith)
+      one-length cs i 3 (kind-at 1 3 (λ b e n. rw (e, ne-eqb (length b) 3 n)) o) true
+      (Init (byteAt (pairsAt cs i 3) 1) (byteAt (pairsAt cs i 3) 2)) (i + 9) (rw (first-byte 2 o, pairs-length)) (omega arith)
       ∙ rw and-true
 
-  pub derive-at : Opened cs i 6 → callAt cs i ≡ cond (isLineAt cs i 4) (LineAt.Good (PocDerivation (byteAt (pairsAt cs i 3) 1) (byteAt (pairsAt cs i 3) 2)) (i + 9)) LineAt.Other
+  pub derive-at : Opened cs i 6
+      → callAt cs i ≡ cond (isLineAt cs i 4) (LineAt.Good (PocDerivation (byteAt (pairsAt cs i 3) 1) (byteAt (pairsAt cs i 3) 2)) (i + 9)) LineAt.Other
   unfolding callIn
   derive-at o =
-      one-length cs i 3 (kind-at 6 3 (λ b e n. rw (e, ne-eqb (length b) 3 n)) o) true (PocDerivation (byteAt (pairsAt cs i 3) 1) (byteAt (pairsAt cs i 3) 2)) (i + 9) (rw (first-byte 2 o, pairs-length)) (omega arith)
+      one-length cs i 3 (kind-at 6 3 (λ b e n. rw (e, ne-eqb (length b) 3 n)) o) true
+      (PocDerivation (byteAt (pairsAt cs i 3) 1) (byteAt (pairsAt cs i 3) 2)) (i + 9) (rw (first-byte 2 o, pairs-length)) (omega arith)
       ∙ rw and-true
 
   same-entry : (k : ℕ) → k < 11 → byteAt (pairsAt cs i 12) k ≡ byteAt (pairsAt cs i 11) k
@@ -83,7 +88,8 @@ module _ (cs : List ℕ) (i : ℕ) where
   pub lists-at : Opened cs i 5 → callAt cs i ≡ cond (isLineAt cs i 13) (LineAt.Good (listsOf (pairsAt cs i 11) (pairAt cs (i + 22))) (i + 27)) LineAt.Other
   unfolding callIn
   lists-at o =
-      one-length cs i 12 (kind-at 5 12 (λ b e n. rw (e, ne-eqb (length b) 12 n)) o) true (listsIn (pairsAt cs i 12)) (i + 27) (rw (first-byte 11 o, pairs-length)) (omega arith)
+      one-length cs i 12 (kind-at 5 12 (λ b e n. rw (e, ne-eqb (length b) 12 n)) o) true (listsIn (pairsAt cs i 12)) (i + 27)
+      (rw (first-byte 11 o, pairs-length)) (omega arith)
       ∙ rw (and-true, lists-fields)
 
   turned : {A : Type 0} (b : Bool) (x y : A) → cond b x y ≡ cond (not b) y x
@@ -93,10 +99,12 @@ module _ (cs : List ℕ) (i : ℕ) where
   abbrev putOf : List ℕ → Call
   putOf b = PutPic (byteAt b 1) (wordAt b 2 3 4 5) (byteAt b 6) (wordAt b 7 8 9 10)
 
-  pub put-at : Opened cs i 3 → callAt cs i ≡ cond (isLineAt cs i 12 && not (badFlags (byteAt (pairsAt cs i 11) 1))) (LineAt.Good (putOf (pairsAt cs i 11)) (i + 25)) LineAt.Other
+  pub put-at : Opened cs i 3
+      → callAt cs i ≡ cond (isLineAt cs i 12 && not (badFlags (byteAt (pairsAt cs i 11) 1))) (LineAt.Good (putOf (pairsAt cs i 11)) (i + 25)) LineAt.Other
   unfolding callIn
   put-at o =
-      one-length cs i 11 (kind-at 3 11 (λ b e n. rw (e, ne-eqb (length b) 11 n)) o) (not (badFlags (byteAt (pairsAt cs i 11) 1))) (putOf (pairsAt cs i 11)) (i + 25)
+      one-length cs i 11 (kind-at 3 11 (λ b e n. rw (e, ne-eqb (length b) 11 n)) o) (not (badFlags (byteAt (pairsAt cs i 11) 1)))
+      (putOf (pairsAt cs i 11)) (i + 25)
       (rw (first-byte 10 o, pairs-length) (turned (badFlags (byteAt (pairsAt cs i 11) 1)) none (some (putOf (pairsAt cs i 11))))) (omega arith)
 
 -- The characters that open a call line: 0, and then 1 to 6.
@@ -105,7 +113,15 @@ opened cs i c call d v e f = record { digits = rw (e, f, d); call-byte = rw (e, 
 
 other-byte : (b : List ℕ) → ((k : ℕ) → 1 ≤ k → k ≤ 6 → byteAt b 0 ≡ k → ⊥) → callIn b ≡ none
 unfolding callIn
-other-byte b h = rw (no 1 (omega arith) (omega arith), no 2 (omega arith) (omega arith), no 3 (omega arith) (omega arith), no 4 (omega arith) (omega arith), no 5 (omega arith) (omega arith), no 6 (omega arith) (omega arith))
+other-byte b h =
+    rw (
+      no 1 (omega arith) (omega arith),
+      no 2 (omega arith) (omega arith),
+      no 3 (omega arith) (omega arith),
+      no 4 (omega arith) (omega arith),
+      no 5 (omega arith) (omega arith),
+      no 6 (omega arith) (omega arith),
+    )
   where
     no : (k : ℕ) → 1 ≤ k → k ≤ 6 → eqb (byteAt b 0) k ≡ false
     no k p q = ne-eqb (byteAt b 0) k (h k p q)
@@ -113,7 +129,8 @@ other-byte b h = rw (no 1 (omega arith) (omega arith), no 2 (omega arith) (omega
 digit-low : (c : ℕ) → isDigit c ≡ true → digitValue c < 10 → c ≡ 48 + digitValue c
 digit-low = each-digit (λ (c v : ℕ). v < 10 → c ≡ 48 + v) (λ c h k l. omega arith) (λ c h k l. omega arith)
 
-pub no-open : (cs : List ℕ) (i : ℕ) → ((k : ℕ) → 1 ≤ k → k ≤ 6 → i + 1 < length cs → getD cs i 0 ≡ 48 → getD cs (i + 1) 0 ≡ 48 + k → ⊥) → callAt cs i ≡ LineAt.Other
+pub no-open : (cs : List ℕ) (i : ℕ) → ((k : ℕ) → 1 ≤ k → k ≤ 6 → i + 1 < length cs → getD cs i 0 ≡ 48 → getD cs (i + 1) 0 ≡ 48 + k → ⊥)
+    → callAt cs i ≡ LineAt.Other
 unfolding pairsAt arePairs callIn
 no-open cs i h = no-call-at cs i by
   where

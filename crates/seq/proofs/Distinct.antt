@@ -2,7 +2,8 @@
 -- Assumes nothing.
 use mathlib.Core.Path.{_≡_, refl, sym, ap, subst}
 use mathlib.Core.Bool.{Bool, true, false, cond, not, _&&_}
-use mathlib.Core.List.{List, [], _∷_, _++_, map, List·Memᴰ, List·Memᴰ·head, List·Memᴰ·tail, List·Memᴰ·not-nil, List·Memᴰ·cases-cons, List·Memᴰ·append-cases, Memᴰ·append-left, Memᴰ·append-right, Memᴰ·cast, map-id, Memᴰ·map}
+use mathlib.Core.List.{List, [], _∷_, _++_, map, List·Memᴰ, List·Memᴰ·head, List·Memᴰ·tail, List·Memᴰ·not-nil, List·Memᴰ·cases-cons}
+use mathlib.Core.List.{List·Memᴰ·append-cases, Memᴰ·append-left, Memᴰ·append-right, Memᴰ·cast, map-id, Memᴰ·map}
 use mathlib.Core.Logic.{_⊎_, inl, inr, ⊎-elim}
 use Prim.Native.Nat.{ℕ, zero, suc, _≤_, _<_}
 use native.Mathlib.Decide.{ℕ-discrete}
@@ -144,7 +145,8 @@ all-met n xs d below full k l = ⊎-elim (λ m. m) (λ f. absurd (longer f)) (fi
   where
     longer : (List·Memᴰ k xs → ⊥) → ⊥
     longer f =
-        let h : suc (length xs) ≤ n = pigeonhole n (k ∷ xs) (f, d) (λ y m. ⊎-elim (λ e. subst (λ (z : ℕ). z < n) (sym e) l) (below y) (List·Memᴰ·cases-cons m)) in
+        let h : suc (length xs) ≤ n =
+        pigeonhole n (k ∷ xs) (f, d) (λ y m. ⊎-elim (λ e. subst (λ (z : ℕ). z < n) (sym e) l) (below y) (List·Memᴰ·cases-cons m)) in
         omega arith
 
 -- ---- numbers that climb
@@ -157,7 +159,8 @@ Climbing d (x ∷ xs) = (d < x) × Climbing x xs
 pub climbing-above : (d : ℕ) (xs : List ℕ) → Climbing d xs → (x : ℕ) → List·Memᴰ x xs → d < x
 unfolding Climbing
 climbing-above d [] c x m = absurd (List·Memᴰ·not-nil m)
-climbing-above d (y ∷ ys) c x m = ⊎-elim (λ e. subst (λ (z : ℕ). d < z) (sym e) (c .0)) (λ n. let h = climbing-above y ys (c .1) x n in omega arith) (List·Memᴰ·cases-cons m)
+climbing-above d (y ∷ ys) c x m =
+    ⊎-elim (λ e. subst (λ (z : ℕ). d < z) (sym e) (c .0)) (λ n. let h = climbing-above y ys (c .1) x n in omega arith) (List·Memᴰ·cases-cons m)
 
 pub climbing-distinct : (d : ℕ) (xs : List ℕ) → Climbing d xs → Distinct xs
 unfolding Climbing Distinct
@@ -215,6 +218,7 @@ count-select-map p f q [] = refl
 count-select-map p f q (x ∷ xs) = pick (p x) (count-select-map p f q xs)
   where
     pick : (a : Bool) → countIf q (map f (select p xs)) ≡ countIf (λ y. p y && q (f y)) xs
-        → countIf q (map f (cond a (x ∷ select p xs) (select p xs))) ≡ cond (a && q (f x)) (suc (countIf (λ y. p y && q (f y)) xs)) (countIf (λ y. p y && q (f y)) xs)
-    pick true e = ap (λ (n : ℕ). cond (q (f x)) (suc n) n) e
+        → countIf q (map f (cond a (x ∷ select p xs) (select p xs)))
+        ≡ cond (a && q (f x)) (suc (countIf (λ y. p y && q (f y)) xs)) (countIf (λ y. p y && q (f y)) xs)
+    pick true e = rw e
     pick false e = e

@@ -80,7 +80,8 @@ pub fill-turn : {A B : Type 0} (f : A → B) (d : A) (xs : List A) (ys : List B)
 fill-turn f d xs ys i h k e =
     rw (add-one i, take-suc-set ys i (f (getD xs i d)) k, take-suc xs i d h) (rw e (sym (map-append f (take i xs) (getD xs i d ∷ []))))
 
-pub copy-turn : {A : Type 0} (d : A) (xs ys : List A) (i : ℕ) → i < length xs → i < length ys → take i ys ≡ take i xs → take (i + 1) (set ys i (getD xs i d)) ≡ take (i + 1) xs
+pub copy-turn : {A : Type 0} (d : A) (xs ys : List A) (i : ℕ) → i < length xs → i < length ys → take i ys ≡ take i xs
+    → take (i + 1) (set ys i (getD xs i d)) ≡ take (i + 1) xs
 copy-turn d xs ys i h k e = rw (add-one i, take-suc-set ys i (getD xs i d) k, take-suc xs i d h, e)
 
 pub map-any : {A B : Type 0} (f : A → B) (p : B → Bool) (xs : List A) → anyOf p (map f xs) ≡ anyOf (λ x. p (f x)) xs

@@ -3,7 +3,9 @@
 use mathlib.Core.Path.{_≡_, refl, sym, ap, _∙_}
 use mathlib.Core.Bool.{Bool, true, false, cond, not, _&&_}
 use mathlib.Core.Bool as Bool
-use mathlib.Core.List.{List, [], _∷_, _++_, List·Memᴰ, List·Memᴰ·head, List·Memᴰ·tail, append-nil, reverse, reverse-cons, List·Memᴰ·append-cases, List·Memᴰ·eq-of-singleton, Sublistᴰ, Sublistᴰ·slnil, Sublistᴰ·cons, Sublistᴰ·cons-cons, List·Memᴰ·not-nil, List·Memᴰ·cases-cons, Memᴰ·cast}
+use mathlib.Core.List.{List, [], _∷_, _++_, List·Memᴰ, List·Memᴰ·head, List·Memᴰ·tail, append-nil, reverse, reverse-cons}
+use mathlib.Core.List.{List·Memᴰ·append-cases, List·Memᴰ·eq-of-singleton, Sublistᴰ, Sublistᴰ·slnil, Sublistᴰ·cons, Sublistᴰ·cons-cons}
+use mathlib.Core.List.{List·Memᴰ·not-nil, List·Memᴰ·cases-cons, Memᴰ·cast}
 use mathlib.Core.Logic.{_⊎_, inl, inr, ⊎-elim}
 use Prim.Native.Nat.{ℕ, zero, suc, _+_, _≤_, _<_, _-_}
 use native.Mathlib.Nat.{le-of-suc-le-suc, not-suc-le-zero}
@@ -47,7 +49,7 @@ module _ {A : Type 0} where
   unfolding moveTo
   reordered-move d i j [] h k p = absurd (not-suc-le-zero k)
   reordered-move d zero j (x ∷ xs) h k p =
-      reordered-past x (take j xs) (drop j xs) p ∙ ap (λ (l : List A). countIf p (x ∷ l)) (take-append-drop j xs)
+      rw (take-append-drop j xs) at (reordered-past x (take j xs) (drop j xs) p)
   reordered-move d (suc i) zero (x ∷ xs) h k p = absurd (not-suc-le-zero h)
   reordered-move d (suc i) (suc j) (x ∷ xs) h k p =
       count-cons p x xs (moveTo d i j xs) (reordered-move d i j xs (le-of-suc-le-suc h) (le-of-suc-le-suc k) p)
@@ -98,7 +100,7 @@ module _ {A : Type 0} where
   pub remove-reordered : (d z : A) (i : ℕ) (xs : List A) → i < length xs → Reordered (xs ++ (z ∷ [])) (removeAt z i xs ++ (getD xs i d ∷ []))
   unfolding removeAt
   remove-reordered d z i [] h p = absurd (not-suc-le-zero h)
-  remove-reordered d z zero (x ∷ xs) h p = reordered-past x (xs ++ (z ∷ [])) [] p ∙ ap (λ (l : List A). countIf p (x ∷ l)) (append-nil (xs ++ (z ∷ [])))
+  remove-reordered d z zero (x ∷ xs) h p = rw (append-nil (xs ++ (z ∷ []))) at (reordered-past x (xs ++ (z ∷ [])) [] p)
   remove-reordered d z (suc i) (x ∷ xs) h p = count-cons p x _ _ (remove-reordered d z i xs (le-of-suc-le-suc h) p)
 
   pub count-last : (p : A → Bool) (xs : List A) (x : A) → countIf p (xs ++ (x ∷ [])) ≡ countIf p xs + boolByte (p x)
@@ -141,7 +143,7 @@ module _ {A : Type 0} where
 module _ {A : Type 0} where
   pub getD-reverse : (xs : List A) (i : ℕ) (d : A) → i < length xs → getD (reverse xs) i d ≡ getD xs (length xs - 1 - i) d
   getD-reverse [] i d h = absurd (omega arith)
-  getD-reverse (x ∷ xs) i d h = ap (λ (l : List A). getD l i d) (reverse-cons x xs) ∙ pick (lt-or-ge i (length xs)) (getD-reverse xs i d)
+  getD-reverse (x ∷ xs) i d h = rw (reverse-cons x xs) (pick (lt-or-ge i (length xs)) (getD-reverse xs i d))
     where
       pick : (i < length xs) ⊎ (length xs ≤ i) → (i < length xs → getD (reverse xs) i d ≡ getD xs (length xs - 1 - i) d)
           → getD (reverse xs ++ (x ∷ [])) i d ≡ getD (x ∷ xs) (suc (length xs) - 1 - i) d
@@ -164,7 +166,10 @@ module _ {A : Type 0} where
   unfolding select
   select-reverse p [] = refl
   select-reverse p (x ∷ xs) =
-      ap (select p) (reverse-cons x xs) ∙ select-append p (reverse xs) (x ∷ []) ∙ ap (λ (l : List A). l ++ cond (p x) (x ∷ []) []) (select-reverse p xs) ∙ last (p x)
+      ap (select p) (reverse-cons x xs)
+      ∙ select-append p (reverse xs) (x ∷ [])
+      ∙ ap (λ (l : List A). l ++ cond (p x) (x ∷ []) []) (select-reverse p xs)
+      ∙ last (p x)
     where
       last : (b : Bool) → reverse (select p xs) ++ cond b (x ∷ []) [] ≡ reverse (cond b (x ∷ select p xs) (select p xs))
       last true = sym (reverse-cons x (select p xs))
@@ -173,7 +178,8 @@ module _ {A : Type 0} where
   pub mem-reverse : {a : A} (xs : List A) → List·Memᴰ a (reverse xs) → List·Memᴰ a xs
   mem-reverse [] m = m
   mem-reverse (x ∷ xs) m =
-      ⊎-elim (λ n. List·Memᴰ·tail (mem-reverse xs n)) (λ n. List·Memᴰ·head (List·Memᴰ·eq-of-singleton n)) (List·Memᴰ·append-cases (reverse xs) (rw (reverse-cons x xs) at m))
+      ⊎-elim (λ n. List·Memᴰ·tail (mem-reverse xs n)) (λ n. List·Memᴰ·head (List·Memᴰ·eq-of-singleton n))
+      (List·Memᴰ·append-cases (reverse xs) (rw (reverse-cons x xs) at m))
 
 -- ---- a list with some elements left out: its members, none twice where the whole has none twice, and how many it can have
 

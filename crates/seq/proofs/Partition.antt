@@ -39,7 +39,8 @@ select-same {A} p q d i (x ∷ xs) h = rw (here, select-same p q d (suc i) xs th
     there : (j : ℕ) → j < length xs → p (suc i + j) (getD xs j d) ≡ q (suc i + j) (getD xs j d)
     there j l = let z : i + suc j ≡ suc i + j = omega arith in rw z at (h (suc j) (omega arith))
 
--- ---- a stable partition made in one pass over a list: what a test does not pick fills the front of another list of that length, and what it picks, changed by f, the places from m on, where m is how many it does not pick
+-- ---- a stable partition made in one pass over a list: what a test does not pick fills the front of another list of that length, and what it
+-- picks, changed by f, the places from m on, where m is how many it does not pick
 
 module _ {A : Type 0} (p : ℕ → A → Bool) where
   abbrev pub others : ℕ → A → Bool
@@ -107,7 +108,12 @@ module _ {A : Type 0} (p : ℕ → A → Bool) where
             size = length-set out (m + j) y ∙ w .size;
             front = rw (take-set-le k out (m + j) y (omega (arith, w .front-left)), ← miss) (w .front);
             back =
-                rw (drop-set-add m out j y, add-one j, take-suc-set (drop m out) j y (rw length-drop (omega (arith, w .size))), append-snoc) (rw hit at (w .back));
+                rw (
+                  drop-set-add m out j y,
+                  add-one j,
+                  take-suc-set (drop m out) j y (rw length-drop (omega (arith, w .size))),
+                  append-snoc,
+                ) (rw hit at (w .back));
             front-left = omega (arith, ap length miss, w .front-left);
             back-left = omega (arith, ap length hit, w .back-left);
           }

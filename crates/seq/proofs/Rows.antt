@@ -13,7 +13,8 @@ use Rattle.seq.specs.Lists.{entriesFrom, entries, allOf}
 use Rattle.seq.proofs.Members.{mem-at, holds-cons, holds-head, holds-tail}
 use Rattle.seq.proofs.Tests.{all-append, and-left, and-right, and-both}
 
--- ---- a table that follows a rule: the list that the rule makes, and the law that reads an entry of it back. A constant table is shown to be that list by one computation over the whole of it
+-- ---- a table that follows a rule: the list that the rule makes, and the law that reads an entry of it back. A constant table is shown to be
+-- that list by one computation over the whole of it
 
 module _ {A : Type 0} where
   entry-from : (rule : ℕ → A) (d : A) (n i k : ℕ) → k < n → getD (entriesFrom rule i n) k d ≡ rule (i + k)
@@ -39,7 +40,7 @@ module _ {A : Type 0} where
 
   pub entries-suc : (rule : ℕ → A) (n : ℕ) → entries rule (suc n) ≡ entries rule n ++ (rule n ∷ [])
   unfolding entries entriesFrom
-  entries-suc rule n = from 0 n ∙ ap (λ (k : ℕ). entriesFrom rule 0 n ++ (rule k ∷ [])) (zero-add n)
+  entries-suc rule n = rw (zero-add n) at (from 0 n)
     where
       from : (k n : ℕ) → entriesFrom rule k (suc n) ≡ entriesFrom rule k n ++ (rule (k + n) ∷ [])
       from k zero = ap (λ (j : ℕ). rule j ∷ []) (sym (add-zero k))
@@ -101,7 +102,8 @@ module _ {A : Type 0} where
       ∙ all-append p (entries rule i) (rule i ∷ [])
       ∙ ap (λ (b : Bool). allOf p (entries rule i) && b) (and-true (p (rule i)))
 
-  pub test-turn : {p : A → Bool} {rule : ℕ → A} {n i : ℕ} {ok : Bool} (b : Bool) → Tested p rule n i ok → i < n → b ≡ p (rule i) → Tested p rule n (i + 1) (ok && b)
+  pub test-turn : {p : A → Bool} {rule : ℕ → A} {n i : ℕ} {ok : Bool} (b : Bool) → Tested p rule n i ok → i < n → b ≡ p (rule i)
+      → Tested p rule n (i + 1) (ok && b)
   test-turn {p} {rule} {n} {i} {ok} b t h e = record {
     within = omega arith;
     so-far =
@@ -117,12 +119,14 @@ module _ {A : Type 0} where
   -- what the test of all says of a place, and the other way
   pub test-at : (p : A → Bool) (rule : ℕ → A) (n : ℕ) → allOf p (entries rule n) ≡ true → (k : ℕ) → k < n → p (rule k) ≡ true
   unfolding allOf entries entriesFrom
-  test-at p rule n e k h = ap (λ (j : ℕ). p (rule j)) (sym (zero-add k)) ∙ from 0 n e k h
+  test-at p rule n e k h = rw (← zero-add k) (from 0 n e k h)
     where
       from : (i n : ℕ) → allOf p (entriesFrom rule i n) ≡ true → (k : ℕ) → k < n → p (rule (i + k)) ≡ true
       from i zero e k h = absurd (omega arith)
-      from i (suc n) e zero h = ap (λ (j : ℕ). p (rule j)) (add-zero i) ∙ and-left (p (rule i)) (allOf p (entriesFrom rule (suc i) n)) e
-      from i (suc n) e (suc k) h = ap (λ (j : ℕ). p (rule j)) (add-suc i k ∙ sym (suc-add i k)) ∙ from (suc i) n (and-right (p (rule i)) (allOf p (entriesFrom rule (suc i) n)) e) k (omega arith)
+      from i (suc n) e zero h = rw (add-zero i) (and-left (p (rule i)) (allOf p (entriesFrom rule (suc i) n)) e)
+      from i (suc n) e (suc k) h =
+          ap (λ (j : ℕ). p (rule j)) (add-suc i k ∙ sym (suc-add i k))
+          ∙ from (suc i) n (and-right (p (rule i)) (allOf p (entriesFrom rule (suc i) n)) e) k (omega arith)
 
   pub tests-hold : (p : A → Bool) (rule : ℕ → A) (n : ℕ) → ((k : ℕ) → k < n → p (rule k) ≡ true) → allOf p (entries rule n) ≡ true
   unfolding allOf entries
@@ -185,7 +189,7 @@ module _ {B : Type 0} where
           }
 
     pub stands-at : {ys : List B} {n : ℕ} → Stands bs i ys n → (k : ℕ) (d : B) → k < n → getD bs (i + k) d ≡ getD ys k d
-    stands-at {n} p k d h = sym (getD-drop i bs k d) ∙ sym (getD-take n (drop i bs) k d h) ∙ ap (λ (l : List B). getD l k d) (p .part)
+    stands-at {n} p k d h = rw (p .part) at (sym (getD-drop i bs k d) ∙ sym (getD-take n (drop i bs) k d h))
 
   pub stands-whole : {bs ys : List B} {n : ℕ} → Stands bs 0 ys n → length bs ≡ n → ys ≡ bs
   stands-whole {bs} p e = sym (p .part) ∙ ap (λ (n : ℕ). take n bs) (sym e) ∙ take-length bs
@@ -199,7 +203,7 @@ module _ {A B : Type 0} (f : A → List B) where
   pub flatMap-append : (xs ys : List A) → flatMap f (xs ++ ys) ≡ flatMap f xs ++ flatMap f ys
   unfolding flatMap
   flatMap-append [] ys = refl
-  flatMap-append (x ∷ xs) ys = ap (λ (l : List B). f x ++ l) (flatMap-append xs ys) ∙ sym (append-assoc (f x) (flatMap f xs) (flatMap f ys))
+  flatMap-append (x ∷ xs) ys = rw (flatMap-append xs ys) (sym (append-assoc (f x) (flatMap f xs) (flatMap f ys)))
 
   module _ (w : ℕ) where
     pub length-row : (xs : List A) → ((x : A) → List·Memᴰ x xs → length (f x) ≡ w) → length (flatMap f xs) ≡ w * length xs
@@ -215,9 +219,10 @@ module _ {A B : Type 0} (f : A → List B) where
         row-suc n = add-comm w (w * n) ∙ sym (mul-suc w n)
 
     next : (i k : ℕ) → i + w + w * k ≡ i + w * suc k
-    next i k = add-assoc i w (w * k) ∙ ap (λ (n : ℕ). i + n) (add-comm w (w * k) ∙ sym (mul-suc w k))
+    next i k = rw (add-comm w (w * k) ∙ sym (mul-suc w k)) at (add-assoc i w (w * k))
 
-    parted : {bs : List B} {i : ℕ} (x : A) (xs : List A) → Stands bs i (flatMap f (x ∷ xs)) (w * suc (length xs)) → Stands bs i (f x ++ flatMap f xs) (w + w * length xs)
+    parted : {bs : List B} {i : ℕ} (x : A) (xs : List A) → Stands bs i (flatMap f (x ∷ xs)) (w * suc (length xs))
+        → Stands bs i (f x ++ flatMap f xs) (w + w * length xs)
     unfolding flatMap
     parted {bs} {i} x xs p = subst (Stands bs i (f x ++ flatMap f xs)) (mul-suc w (length xs) ∙ add-comm (w * length xs) w) p
 
@@ -237,13 +242,16 @@ module _ {A B : Type 0} (f : A → List B) where
           → ((x : A) → List·Memᴰ x xs → (j : ℕ) → Stands bs j (f x) w → part j ≡ x)
           → (n : ℕ) → length xs ≡ n → Stands bs i (flatMap f xs) (w * n) → entries (λ j. part (i + w * j)) n ≡ xs
       read-row d xs wide read n e p =
-          ext-getD d (entries (λ j. part (i + w * j)) n) xs (length-entries (λ j. part (i + w * j)) n ∙ sym e) (λ k h. same k (omega (arith, length-entries (λ j. part (i + w * j)) n)))
+          ext-getD d (entries (λ j. part (i + w * j)) n) xs (length-entries (λ j. part (i + w * j)) n ∙ sym e)
+          (λ k h. same k (omega (arith, length-entries (λ j. part (i + w * j)) n)))
         where
           row : Stands bs i (flatMap f xs) (w * length xs)
           row = subst (λ (m : ℕ). Stands bs i (flatMap f xs) (w * m)) (sym e) p
 
           same : (k : ℕ) → k < n → getD (entries (λ j. part (i + w * j)) n) k d ≡ getD xs k d
-          same k h = entry (λ j. part (i + w * j)) d n k h ∙ read (getD xs k d) (mem-at xs k d (omega arith)) (i + w * k) (stands-in-row d xs wide i row k (omega arith))
+          same k h =
+              entry (λ j. part (i + w * j)) d n k h
+              ∙ read (getD xs k d) (mem-at xs k d (omega arith)) (i + w * k) (stands-in-row d xs wide i row k (omega arith))
 
       -- a row that is written of what was read
       pub write-row : (n : ℕ) → ((j : ℕ) → j < n → Stands bs (i + w * j) (f (part (i + w * j))) w)
@@ -253,5 +261,7 @@ module _ {A B : Type 0} (f : A → List B) where
       write-row (suc n) stands =
           let rule : ℕ → A = λ j. part (i + w * j) in
           let row : flatMap f (entries rule (suc n)) ≡ flatMap f (entries rule n) ++ f (rule n) =
-          ap (flatMap f) (entries-suc rule n) ∙ flatMap-append (entries rule n) (rule n ∷ []) ∙ ap (λ (l : List B). flatMap f (entries rule n) ++ l) (append-nil (f (rule n))) in
+          ap (flatMap f) (entries-suc rule n)
+          ∙ flatMap-append (entries rule n) (rule n ∷ [])
+          ∙ ap (λ (l : List B). flatMap f (entries rule n) ++ l) (append-nil (f (rule n))) in
           rw (row, mul-suc w n) (stands-then (write-row n (λ j h. stands j (omega arith))) (stands n (omega arith)))

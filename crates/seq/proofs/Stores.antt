@@ -68,7 +68,7 @@ module _ {A B : Type 0} (f : A → List B) (w : ℕ) (bs : List B) (i : ℕ) (xs
       ∙ ap (flatMap f) (take-suc xs k d (omega arith))
       ∙ flatMap-append f (take k xs) (getD xs k d ∷ [])
       ∙ ap (λ (l : List B). flatMap f (take k xs) ++ l) (append-nil (f (getD xs k d))) in
-      let places : w * (k + 1) ≡ w * k + w = ap (λ (m : ℕ). w * m) (add-one k) ∙ mul-suc w k in
+      let places : w * (k + 1) ≡ w * k + w = rw (add-one k) (mul-suc w k) in
       record { within = omega arith; same = stored-length q ∙ p .same; done = rw (parts, places) (stored-then (p .done) q) }
 
   pub storing-end : {k : ℕ} {after : List B} → length xs ≡ n → n ≤ k → Storing k after → Stored bs i (flatMap f xs) (w * n) after

@@ -98,7 +98,7 @@ module _ {A : Type 0} (p : A → Bool) where
   pub all-append : (xs ys : List A) → allOf p (xs ++ ys) ≡ (allOf p xs && allOf p ys)
   unfolding allOf
   all-append [] ys = refl
-  all-append (x ∷ xs) ys = ap (λ (b : Bool). p x && b) (all-append xs ys) ∙ sym (and-assoc (p x) (allOf p xs) (allOf p ys))
+  all-append (x ∷ xs) ys = rw (all-append xs ys) (sym (and-assoc (p x) (allOf p xs) (allOf p ys)))
 
   pub all-true : {x : A} (xs : List A) → allOf p xs ≡ true → List·Memᴰ x xs → p x ≡ true
   unfolding allOf
@@ -120,7 +120,7 @@ module _ {A : Type 0} (p : A → Bool) where
   pub any-append : (xs ys : List A) → anyOf p (xs ++ ys) ≡ (anyOf p xs || anyOf p ys)
   unfolding anyOf
   any-append [] ys = refl
-  any-append (x ∷ xs) ys = ap (λ (b : Bool). p x || b) (any-append xs ys) ∙ sym (or-assoc (p x) (anyOf p xs) (anyOf p ys))
+  any-append (x ∷ xs) ys = rw (any-append xs ys) (sym (or-assoc (p x) (anyOf p xs) (anyOf p ys)))
 
   pub any-false : {x : A} (xs : List A) → anyOf p xs ≡ false → List·Memᴰ x xs → p x ≡ false
   unfolding anyOf

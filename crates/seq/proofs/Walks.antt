@@ -141,7 +141,8 @@ module _ {A : Type 0} (d : A) (p : A → Bool) where
   highest-found xs zero h l f e = absurd (not-suc-le-zero h)
   highest-found xs (suc k) h l f e = let q : suc k - 1 ≡ k = omega arith in rw q (sym (highest-hit xs k l (rw q at e) f))
 
-  pub none-from : (xs : List A) (i : ℕ) → 0 < i → i ≤ length xs → anyOf p (drop i xs) ≡ false → p (getD xs (i - 1) d) ≡ false → anyOf p (drop (i - 1) xs) ≡ false
+  pub none-from : (xs : List A) (i : ℕ) → 0 < i → i ≤ length xs → anyOf p (drop i xs) ≡ false → p (getD xs (i - 1) d) ≡ false
+      → anyOf p (drop (i - 1) xs) ≡ false
   unfolding anyOf
   none-from xs zero h l f e = absurd (not-suc-le-zero h)
   none-from xs (suc k) h l f e = let q : suc k - 1 ≡ k = omega arith in rw q (below (rw q at e))

@@ -35,7 +35,7 @@ spelled {c} {cs} e = record { first = c; rest = cs; parts = refl; plain = e }
 
 read-words : (ws : List (List ℕ)) → AllPlain ws → readCommand (spaced ws) ≡ finished (stepOver begun ws)
 unfolding readCommand
-read-words ws p = ap (λ (l : List (List ℕ)). finished (stepOver begun l)) (words-spaced ws p)
+read-words ws p = rw (words-spaced ws p)
 
 -- ---- the commands, over any words that are numbers
 
@@ -95,7 +95,8 @@ bit false = 0
 abbrev flagSum : Bool → Bool → Bool → Bool → ℕ
 flagSum a b c d = bit a + (2 * bit b + (4 * bit c + 8 * bit d))
 
-put-flags : (a b c d : Bool) (poc layer gap : ℕ) → finished (stepOver (draft 3 6 48 0 poc layer gap 21) (flagNames a b c d)) ≡ Command.Call (PutPic (flagSum a b c d) poc layer gap)
+put-flags : (a b c d : Bool) (poc layer gap : ℕ)
+    → finished (stepOver (draft 3 6 48 0 poc layer gap 21) (flagNames a b c d)) ≡ Command.Call (PutPic (flagSum a b c d) poc layer gap)
 unfolding stepOver step wordOf bit
 put-flags false false false false poc layer gap = refl
 put-flags false false false true poc layer gap = refl
@@ -182,7 +183,8 @@ record SignedRead (w : Word) (n : ℕ) : Type 0 where
 negative-read : (m : ℕ) → 1 ≤ m → m ≤ 2147483648 → SignedRead (wordOf (45 ∷ decimal m)) (4294967296 - m)
 unfolding wordOf
 negative-read m a b =
-    let d : DigitsRead (wordWith 301 0 true) (foldl longer (wordWith 301 0 true) (decimal m)) m = digits-read 19 m (wordWith 301 0 true) (omega arith) (omega arith) refl in
+    let d : DigitsRead (wordWith 301 0 true) (foldl longer (wordWith 301 0 true) (decimal m)) m =
+    digits-read 19 m (wordWith 301 0 true) (omega arith) (omega arith) refl in
     let code = d .further (omega arith) in
     let other = ne-eqb (foldl longer (wordWith 301 0 true) (decimal m) .code) 301 (λ e. omega arith) in
     let small : (4294967296 - m) % 4294967296 ≡ 4294967296 - m = omega arith in
@@ -249,7 +251,7 @@ begun-derive = refl
 
 next : (d e : Draft) (w : List ℕ) (ws : List (List ℕ)) → step d (wordOf w) ≡ e → stepOver d (w ∷ ws) ≡ stepOver e ws
 unfolding stepOver
-next d e w ws p = ap (λ (x : Draft). stepOver x ws) p
+next d e w ws p = rw p
 
 first-number : (call n : ℕ) → n < 256 → step (started call 1) (wordOf (decimal n)) ≡ draft call 2 0 n 0 0 0 21
 unfolding step
@@ -266,41 +268,63 @@ init-over size refs f =
     ∙ next (started 1 1) (draft 1 2 0 size 0 0 0 21) (decimal size) (decimal refs ∷ []) (first-number 1 size (f .0))
     ∙ next (draft 1 2 0 size 0 0 0 21) (draft 1 12 0 size 0 refs 0 21) (decimal refs) ([]) (second-number 1 size refs (f .1))
 
-derive-over : (length layer : ℕ) → CallFits (PocDerivation length layer) → stepOver begun (callWords (PocDerivation length layer)) ≡ stepOver (draft 6 12 0 length 0 layer 0 21) []
+derive-over : (length layer : ℕ) → CallFits (PocDerivation length layer)
+    → stepOver begun (callWords (PocDerivation length layer)) ≡ stepOver (draft 6 12 0 length 0 layer 0 21) []
 unfolding CallFits
 derive-over length layer f =
     next (begun) (started 6 1) (chars "derive") (decimal length ∷ decimal layer ∷ []) (begun-derive)
     ∙ next (started 6 1) (draft 6 2 0 length 0 0 0 21) (decimal length) (decimal layer ∷ []) (first-number 6 length (f .0))
     ∙ next (draft 6 2 0 length 0 0 0 21) (draft 6 12 0 length 0 layer 0 21) (decimal layer) ([]) (second-number 6 length layer (f .1))
 
-put-over : (flags poc layer gap : ℕ) → CallFits (PutPic flags poc layer gap) → stepOver begun (callWords (PutPic flags poc layer gap)) ≡ stepOver (draft 3 6 48 0 poc layer gap 21) (flagWords flags)
+put-over : (flags poc layer gap : ℕ) → CallFits (PutPic flags poc layer gap)
+    → stepOver begun (callWords (PutPic flags poc layer gap)) ≡ stepOver (draft 3 6 48 0 poc layer gap 21) (flagWords flags)
 unfolding CallFits
 put-over flags poc layer gap f =
     next (begun) (started 3 5) (chars "put") (decimal poc ∷ chars "layer" ∷ decimal layer ∷ chars "gap" ∷ decimal gap ∷ flagWords flags) (begun-put)
-    ∙ next (started 3 5) (draft 3 6 0 0 poc 0 0 21) (decimal poc) (chars "layer" ∷ decimal layer ∷ chars "gap" ∷ decimal gap ∷ flagWords flags) (put-number (wordOf (decimal poc)) (word-fits poc (f .1)) ∙ ap (λ (v : ℕ). draft 3 6 0 0 v 0 0 21) (number-value poc (f .1)))
+    ∙ next (started 3 5) (draft 3 6 0 0 poc 0 0 21) (decimal poc)
+    (chars "layer" ∷ decimal layer ∷ chars "gap" ∷ decimal gap ∷ flagWords flags)
+    (put-number (wordOf (decimal poc)) (word-fits poc (f .1)) ∙ ap (λ (v : ℕ). draft 3 6 0 0 v 0 0 21) (number-value poc (f .1)))
     ∙ next (draft 3 6 0 0 poc 0 0 21) (draft 3 8 16 0 poc 0 0 21) (chars "layer") (decimal layer ∷ chars "gap" ∷ decimal gap ∷ flagWords flags) (put-layer poc)
-    ∙ next (draft 3 8 16 0 poc 0 0 21) (draft 3 6 16 0 poc layer 0 21) (decimal layer) (chars "gap" ∷ decimal gap ∷ flagWords flags) (put-layer-is poc (wordOf (decimal layer)) (byte-fits layer (f .2)) ∙ ap (λ (v : ℕ). draft 3 6 16 0 poc v 0 21) (byte-is layer (f .2)))
+    ∙ next (draft 3 8 16 0 poc 0 0 21) (draft 3 6 16 0 poc layer 0 21) (decimal layer) (chars "gap" ∷ decimal gap ∷ flagWords flags)
+    (put-layer-is poc (wordOf (decimal layer)) (byte-fits layer (f .2)) ∙ ap (λ (v : ℕ). draft 3 6 16 0 poc v 0 21) (byte-is layer (f .2)))
     ∙ next (draft 3 6 16 0 poc layer 0 21) (draft 3 9 48 0 poc layer 0 21) (chars "gap") (decimal gap ∷ flagWords flags) (put-gap poc layer)
-    ∙ next (draft 3 9 48 0 poc layer 0 21) (draft 3 6 48 0 poc layer gap 21) (decimal gap) (flagWords flags) (put-gap-is poc layer (wordOf (decimal gap)) (word-fits gap (f .3)) ∙ ap (λ (v : ℕ). draft 3 6 48 0 poc layer v 21) (number-value gap (f .3)))
+    ∙ next (draft 3 9 48 0 poc layer 0 21) (draft 3 6 48 0 poc layer gap 21) (decimal gap) (flagWords flags)
+    (put-gap-is poc layer (wordOf (decimal gap)) (word-fits gap (f .3)) ∙ ap (λ (v : ℕ). draft 3 6 48 0 poc layer v 21) (number-value gap (f .3)))
 
 lists-over : (slice poc layer intra limit : ℕ) → CallFits (RefpInit slice poc layer intra limit)
     → stepOver begun (callWords (RefpInit slice poc layer intra limit)) ≡ stepOver (draft 5 7 112 slice poc layer intra limit) []
 unfolding CallFits
 lists-over slice poc layer intra limit f =
     let s = signed-read intra (f .3) in
-    next (begun) (started 5 3) (chars "lists") (sliceName slice ∷ decimal poc ∷ chars "layer" ∷ decimal layer ∷ chars "intra" ∷ signedDecimal intra ∷ chars "limit" ∷ decimal limit ∷ []) (begun-lists)
-    ∙ next (started 5 3) (draft 5 4 0 slice 0 0 0 21) (sliceName slice) (decimal poc ∷ chars "layer" ∷ decimal layer ∷ chars "intra" ∷ signedDecimal intra ∷ chars "limit" ∷ decimal limit ∷ []) (slice-read slice (f .0))
-    ∙ next (draft 5 4 0 slice 0 0 0 21) (draft 5 7 0 slice poc 0 0 21) (decimal poc) (chars "layer" ∷ decimal layer ∷ chars "intra" ∷ signedDecimal intra ∷ chars "limit" ∷ decimal limit ∷ []) (list-number slice (wordOf (decimal poc)) (word-fits poc (f .1)) ∙ ap (λ (v : ℕ). draft 5 7 0 slice v 0 0 21) (number-value poc (f .1)))
-    ∙ next (draft 5 7 0 slice poc 0 0 21) (draft 5 8 16 slice poc 0 0 21) (chars "layer") (decimal layer ∷ chars "intra" ∷ signedDecimal intra ∷ chars "limit" ∷ decimal limit ∷ []) (list-layer slice poc)
-    ∙ next (draft 5 8 16 slice poc 0 0 21) (draft 5 7 16 slice poc layer 0 21) (decimal layer) (chars "intra" ∷ signedDecimal intra ∷ chars "limit" ∷ decimal limit ∷ []) (list-layer-is slice poc (wordOf (decimal layer)) (byte-fits layer (f .2)) ∙ ap (λ (v : ℕ). draft 5 7 16 slice poc v 0 21) (byte-is layer (f .2)))
-    ∙ next (draft 5 7 16 slice poc layer 0 21) (draft 5 10 48 slice poc layer 0 21) (chars "intra") (signedDecimal intra ∷ chars "limit" ∷ decimal limit ∷ []) (list-intra slice poc layer)
-    ∙ next (draft 5 10 48 slice poc layer 0 21) (draft 5 7 48 slice poc layer intra 21) (signedDecimal intra) (chars "limit" ∷ decimal limit ∷ []) (list-intra-is slice poc layer (wordOf (signedDecimal intra)) (s .fits) ∙ ap (λ (v : ℕ). draft 5 7 48 slice poc layer v 21) (s .is))
-    ∙ next (draft 5 7 48 slice poc layer intra 21) (draft 5 11 112 slice poc layer intra 21) (chars "limit") (decimal limit ∷ []) (list-limit slice poc layer intra)
-    ∙ next (draft 5 11 112 slice poc layer intra 21) (draft 5 7 112 slice poc layer intra limit) (decimal limit) ([]) (list-limit-is slice poc layer intra (wordOf (decimal limit)) (byte-fits limit (f .4)) ∙ ap (λ (v : ℕ). draft 5 7 112 slice poc layer intra v) (byte-is limit (f .4)))
+    next (begun) (started 5 3) (chars "lists")
+    (sliceName slice ∷ decimal poc ∷ chars "layer" ∷ decimal layer ∷ chars "intra" ∷ signedDecimal intra ∷ chars "limit" ∷ decimal limit ∷ [])
+    (begun-lists)
+    ∙ next (started 5 3) (draft 5 4 0 slice 0 0 0 21) (sliceName slice)
+    (decimal poc ∷ chars "layer" ∷ decimal layer ∷ chars "intra" ∷ signedDecimal intra ∷ chars "limit" ∷ decimal limit ∷ [])
+    (slice-read slice (f .0))
+    ∙ next (draft 5 4 0 slice 0 0 0 21) (draft 5 7 0 slice poc 0 0 21) (decimal poc)
+    (chars "layer" ∷ decimal layer ∷ chars "intra" ∷ signedDecimal intra ∷ chars "limit" ∷ decimal limit ∷ [])
+    (list-number slice (wordOf (decimal poc)) (word-fits poc (f .1)) ∙ ap (λ (v : ℕ). draft 5 7 0 slice v 0 0 21) (number-value poc (f .1)))
+    ∙ next (draft 5 7 0 slice poc 0 0 21) (draft 5 8 16 slice poc 0 0 21) (chars "layer")
+    (decimal layer ∷ chars "intra" ∷ signedDecimal intra ∷ chars "limit" ∷ decimal limit ∷ []) (list-layer slice poc)
+    ∙ next (draft 5 8 16 slice poc 0 0 21) (draft 5 7 16 slice poc layer 0 21) (decimal layer)
+    (chars "intra" ∷ signedDecimal intra ∷ chars "limit" ∷ decimal limit ∷ [])
+    (list-layer-is slice poc (wordOf (decimal layer)) (byte-fits layer (f .2)) ∙ ap (λ (v : ℕ). draft 5 7 16 slice poc v 0 21) (byte-is layer (f .2)))
+    ∙ next (draft 5 7 16 slice poc layer 0 21) (draft 5 10 48 slice poc layer 0 21) (chars "intra")
+    (signedDecimal intra ∷ chars "limit" ∷ decimal limit ∷ []) (list-intra slice poc layer)
+    ∙ next (draft 5 10 48 slice poc layer 0 21) (draft 5 7 48 slice poc layer intra 21) (signedDecimal intra)
+    (chars "limit" ∷ decimal limit ∷ [])
+    (list-intra-is slice poc layer (wordOf (signedDecimal intra)) (s .fits) ∙ ap (λ (v : ℕ). draft 5 7 48 slice poc layer v 21) (s .is))
+    ∙ next (draft 5 7 48 slice poc layer intra 21) (draft 5 11 112 slice poc layer intra 21) (chars "limit") (decimal limit ∷ [])
+    (list-limit slice poc layer intra)
+    ∙ next (draft 5 11 112 slice poc layer intra 21) (draft 5 7 112 slice poc layer intra limit) (decimal limit) ([])
+    (list-limit-is slice poc layer intra (wordOf (decimal limit)) (byte-fits limit (f .4))
+    ∙ ap (λ (v : ℕ). draft 5 7 112 slice poc layer intra v) (byte-is limit (f .4)))
 
 -- ---- each kind of command
 
-read-as : (call : Call) → AllPlain (callWords call) → finished (stepOver begun (callWords call)) ≡ Command.Call call → readCommand (sayCommand call) ≡ Command.Call call
+read-as : (call : Call) → AllPlain (callWords call) → finished (stepOver begun (callWords call)) ≡ Command.Call call
+    → readCommand (sayCommand call) ≡ Command.Call call
 unfolding sayCommand
 read-as call p e = read-words (callWords call) p ∙ e
 
@@ -308,7 +332,8 @@ get-out : (finished (stepOver begun (callWords GetEmptyPic)) ≡ Command.Call Ge
 unfolding stepOver step wordOf
 get-out = (refl, refl)
 
-put-finished : (flags poc layer gap : ℕ) → flags ≤ 15 → finished (stepOver (draft 3 6 48 0 poc layer gap 21) (flagWords flags)) ≡ Command.Call (PutPic flags poc layer gap)
+put-finished : (flags poc layer gap : ℕ) → flags ≤ 15
+    → finished (stepOver (draft 3 6 48 0 poc layer gap 21) (flagWords flags)) ≡ Command.Call (PutPic flags poc layer gap)
 put-finished flags poc layer gap h =
     put-flags (isSet (flags % 2)) (isSet (flags / 2 % 2)) (isSet (flags / 4 % 2)) (isSet (flags / 8 % 2)) poc layer gap
     ∙ ap (λ (n : ℕ). Command.Call (PutPic n poc layer gap)) (flag-sum flags h)
@@ -326,10 +351,13 @@ said-is-read (PutPic flags poc layer gap) f =
 said-is-read OutPic f = read-as OutPic (more (spelled refl) none) (get-out .1)
 said-is-read (RefpInit slice poc layer intra limit) f =
     read-as (RefpInit slice poc layer intra limit)
-    (more (spelled refl) (more (plain-slice slice) (more (plain-decimal poc) (more (spelled refl) (more (plain-decimal layer) (more (spelled refl) (more (signed-plain intra) (more (spelled refl) (more (plain-decimal limit) none)))))))))
+    (more (spelled refl)
+    (more (plain-slice slice) (more (plain-decimal poc) (more (spelled refl) (more (plain-decimal layer)
+    (more (spelled refl) (more (signed-plain intra) (more (spelled refl) (more (plain-decimal limit) none)))))))))
     (ap finished (lists-over slice poc layer intra limit f))
 said-is-read (PocDerivation length layer) f =
-    read-as (PocDerivation length layer) (more (spelled refl) (more (plain-decimal length) (more (plain-decimal layer) none))) (ap finished (derive-over length layer f))
+    read-as (PocDerivation length layer) (more (spelled refl) (more (plain-decimal length) (more (plain-decimal layer) none)))
+    (ap finished (derive-over length layer f))
 
 pub short-forms : ShortForms
 unfolding readCommand stepOver step wordOf wordsFrom

@@ -52,10 +52,15 @@ pub digits-read : (k n : ℕ) (w : Word) → n < 10 ^ suc k → n < 2 ^ 32 → w
 unfolding decimalFrom
 digits-read zero n w h small v = rw (lt-ltb n 10 h) (one-digit w n h v)
 digits-read (suc k) n w h small v =
-    ⊎-elim (λ (l : n < 10). rw (lt-ltb n 10 l) (one-digit w n l v)) (λ (l : 10 ≤ n). more l (digits-read k (n / 10) w (let e = pow-suc 10 (suc k) in omega arith) (omega arith) v)) (lt-or-ge n 10)
+    ⊎-elim (λ (l : n < 10). rw (lt-ltb n 10 l) (one-digit w n l v))
+    (λ (l : 10 ≤ n). more l (digits-read k (n / 10) w (let e = pow-suc 10 (suc k) in omega arith) (omega arith) v)) (lt-or-ge n 10)
   where
     more : 10 ≤ n → DigitsRead w (foldl longer w (decimalFrom (suc k) (n / 10))) (n / 10) → DigitsRead w (foldl longer w (decimalFrom (suc (suc k)) n)) n
-    more l p = rw (le-ltb n 10 l, foldl-snoc longer w (decimalFrom (suc k) (n / 10)) (48 + n % 10)) (next-digit w (foldl longer w (decimalFrom (suc k) (n / 10))) n small p)
+    more l p =
+        rw (
+          le-ltb n 10 l,
+          foldl-snoc longer w (decimalFrom (suc k) (n / 10)) (48 + n % 10),
+        ) (next-digit w (foldl longer w (decimalFrom (suc k) (n / 10))) n small p)
 
 pub read-decimal : (n : ℕ) → n < 2 ^ 32 → DigitsRead emptyWord (wordOf (decimal n)) n
 unfolding wordOf

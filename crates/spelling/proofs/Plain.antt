@@ -62,14 +62,20 @@ all-append p (x ∷ xs) ys e f = rw (and-left (p x) (allOf p xs) e, all-append p
 
 plain-digit : (d : ℕ) → d < 10 → isPlain (48 + d) ≡ true
 plain-digit d h =
-    rw (ne-eqb (48 + d) 35 (λ e. omega arith), ne-eqb (48 + d) 32 (λ e. omega arith), ne-eqb (48 + d) 9 (λ e. omega arith), ne-eqb (48 + d) 13 (λ e. omega arith))
+    rw (
+      ne-eqb (48 + d) 35 (λ e. omega arith),
+      ne-eqb (48 + d) 32 (λ e. omega arith),
+      ne-eqb (48 + d) 9 (λ e. omega arith),
+      ne-eqb (48 + d) 13 (λ e. omega arith),
+    )
 
 plain-digits : (k n : ℕ) → allOf isPlain (decimalFrom k n) ≡ true
 unfolding decimalFrom allOf
 plain-digits zero n = refl
 plain-digits (suc k) n = by (ltb n 10) refl (plain-digits k (n / 10))
   where
-    by : (b : Bool) → ltb n 10 ≡ b → allOf isPlain (decimalFrom k (n / 10)) ≡ true → allOf isPlain (cond b ((48 + n) ∷ []) (decimalFrom k (n / 10) ++ ((48 + n % 10) ∷ []))) ≡ true
+    by : (b : Bool) → ltb n 10 ≡ b → allOf isPlain (decimalFrom k (n / 10)) ≡ true
+        → allOf isPlain (cond b ((48 + n) ∷ []) (decimalFrom k (n / 10) ++ ((48 + n % 10) ∷ []))) ≡ true
     by true e p = rw (plain-digit n (ltb-true n 10 e))
     by false e p = all-append isPlain (decimalFrom k (n / 10)) ((48 + n % 10) ∷ []) p (rw (plain-digit (n % 10) (omega arith)))
 
@@ -82,6 +88,7 @@ pub plain-decimal : (n : ℕ) → Plain (decimal n)
 unfolding decimalFrom
 plain-decimal n = by (ltb n 10) (plain-digits 20 n)
   where
-    by : (b : Bool) → allOf isPlain (cond b ((48 + n) ∷ []) (decimalFrom 19 (n / 10) ++ ((48 + n % 10) ∷ []))) ≡ true → Plain (cond b ((48 + n) ∷ []) (decimalFrom 19 (n / 10) ++ ((48 + n % 10) ∷ [])))
+    by : (b : Bool) → allOf isPlain (cond b ((48 + n) ∷ []) (decimalFrom 19 (n / 10) ++ ((48 + n % 10) ∷ []))) ≡ true
+        → Plain (cond b ((48 + n) ∷ []) (decimalFrom 19 (n / 10) ++ ((48 + n % 10) ∷ [])))
     by true e = record { first = 48 + n; rest = []; parts = refl; plain = e }
     by false e = snoc-begins (decimalFrom 19 (n / 10)) (48 + n % 10) e

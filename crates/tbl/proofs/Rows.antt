@@ -75,8 +75,8 @@ pub shown-depth : (a b : Bool) (x d : ℕ) → a ≡ true → b ≡ true → x �
 shown-depth a b x d p q e = ap Depth e ∙ sym (ap (λ (t : Bool). shown (t && b) d) p ∙ ap (λ (t : Bool). shown t d) q)
 
 pub no-length : (a b : Bool) (d : ℕ) → a ≡ false → Refused BadLength ≡ shown (a && b) d
-no-length a b d p = sym (ap (λ (t : Bool). shown (t && b) d) p)
+no-length a b d p = sym (rw p)
 
 pub no-position : (a b : Bool) (d : ℕ) → b ≡ false → Refused BadLength ≡ shown (a && b) d
-no-position true b d q = sym (ap (λ (t : Bool). shown t d) q)
+no-position true b d q = sym (rw q)
 no-position false b d q = refl

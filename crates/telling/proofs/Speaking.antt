@@ -3,10 +3,10 @@
 use Prim.Native.Nat.{ℕ, _+_, _-_, _*_, _≤_, _<_}
 use native.Mathlib.Numerals.{add-one}
 use native.Mathlib.Omega.{arith}
-use mathlib.Core.Path.{_≡_, refl, sym, ap, subst, _∙_}
+use mathlib.Core.Path.{_≡_, refl, sym, ap, _∙_}
 use mathlib.Core.List.{List, [], _∷_, _++_, append-assoc, append-nil}
 use lib.ListN.{length, getD, take, drop, set, length-set, length-append, length-drop, drop-of-length-le}
-use lib.Seq.{sets, sets-eq, take-all, take-at, take-suc, take-suc-set, length-take-le, drop-drop}
+use lib.Seq.{sets-eq, take-all, take-at, take-suc, take-suc-set, length-take-le, drop-drop}
 use borrow.Author.Tests.{ne-eqb}
 use borrow.Rule.Slice.PartMut.{midOf, postOf, putMid}
 use Rattle.phrases.specs.Phrases.{Added}

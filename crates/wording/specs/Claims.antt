@@ -5,7 +5,9 @@ use mathlib.Core.Path.{_≡_}
 use mathlib.Core.List.{List}
 use Rattle.phrases.specs.Phrases.{chars}
 use Rattle.def.specs.declared.Refusal.{Refusal}
-use Rattle.def.specs.declared.Refusal.the-variants.{SizeTooBig, StoreFull, PictureLeased, NoLease, SlotTaken, NumberTooHigh, StateNotWhole, TooManyReferences, NoReferences, ForwardListEmpty, SameNumber, NoSuchPlace, BadLayer, BadRecord, BadLength, BadLine, BadPlan, NoRoom}
+use Rattle.def.specs.declared.Refusal.the-variants.{SizeTooBig, StoreFull, PictureLeased, NoLease, SlotTaken, NumberTooHigh, StateNotWhole}
+use Rattle.def.specs.declared.Refusal.the-variants.{TooManyReferences, NoReferences, ForwardListEmpty, SameNumber, NoSuchPlace, BadLayer}
+use Rattle.def.specs.declared.Refusal.the-variants.{BadRecord, BadLength, BadLine, BadPlan, NoRoom}
 use Rattle.def.specs.Refusals.{refusalNumber}
 use Rattle.wording.specs.Words.{statusWord}
 

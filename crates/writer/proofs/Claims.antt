@@ -52,7 +52,11 @@ unfolding written
 refused-unwritten fields target why e = by (isCallBody fields) (ltb (length target) (lineSize fields)) e
   where
     left : Bool → Bool → WrittenOut
-    left a b = cond a (cond b (writtenOut (Written.Refused Refusal.NoRoom) target) (writtenOut (Written.Line (lineSize fields)) (paste target 0 (wholeOf fields) (lineSize fields)))) (writtenOut (Written.Refused Refusal.BadLine) target)
+    left a b =
+        cond a
+        (cond b (writtenOut (Written.Refused Refusal.NoRoom) target)
+        (writtenOut (Written.Line (lineSize fields)) (paste target 0 (wholeOf fields) (lineSize fields))))
+        (writtenOut (Written.Refused Refusal.BadLine) target)
 
     by : (a b : Bool) → left a b .given ≡ Written.Refused why → left a b .target ≡ target
     by false b e = refl
@@ -74,13 +78,15 @@ at-front call rest f =
     let next : 0 + length (framed body) + 1 ≡ lineSize body = omega (arith, framed-size body) in
     rw (low, lt-ltb (0 + length (framed body)) (length cs) inside, take-at (framed body) (newline ∷ rest) (length (framed body)) refl, reads call f, next)
 
-front : (body target : List ℕ) → lineSize body ≤ length target → paste target 0 (wholeOf body) (lineSize body) ≡ framed body ++ (newline ∷ drop (lineSize body) target)
+front : (body target : List ℕ) → lineSize body ≤ length target
+    → paste target 0 (wholeOf body) (lineSize body) ≡ framed body ++ (newline ∷ drop (lineSize body) target)
 front body target h =
     let size : length (wholeOf body) ≡ lineSize body = omega (arith, framed-size body, length-append (framed body) (newline ∷ [])) in
     let none : 0 + lineSize body ≡ lineSize body = omega arith in
     rw (none, take-all (lineSize body) (wholeOf body) (omega arith)) (append-snoc (framed body) newline (drop (lineSize body) target))
 
-back : (body target : List ℕ) → lineSize body ≤ length target → drop (lineSize body) (paste target 0 (wholeOf body) (lineSize body)) ≡ drop (lineSize body) target
+back : (body target : List ℕ) → lineSize body ≤ length target
+    → drop (lineSize body) (paste target 0 (wholeOf body) (lineSize body)) ≡ drop (lineSize body) target
 back body target h =
     let size : length (wholeOf body) ≡ lineSize body = omega (arith, framed-size body, length-append (framed body) (newline ∷ [])) in
     let none : 0 + lineSize body ≡ lineSize body = omega arith in
@@ -92,9 +98,13 @@ pub written-is-read : WrittenIsRead
 unfolding written
 written-is-read call target f h =
     let body = callBytes call in
-    let all : written body target ≡ writtenOut (Written.Line (lineSize body)) (paste target 0 (wholeOf body) (lineSize body)) = rw (is-call call f, le-ltb (length target) (lineSize body) h) in
+    let all : written body target ≡ writtenOut (Written.Line (lineSize body)) (paste target 0 (wholeOf body) (lineSize body)) =
+    rw (is-call call f, le-ltb (length target) (lineSize body) h) in
     record {
-      given = ap (λ (w : WrittenOut). w .given) all;
-      read = ap (λ (w : WrittenOut). callAt (w .target) 0) all ∙ ap (λ (l : List ℕ). callAt l 0) (front body target h) ∙ at-front call (drop (lineSize body) target) f;
-      behind = ap (λ (w : WrittenOut). drop (lineSize body) (w .target)) all ∙ back body target h;
+      given = rw all;
+      read =
+          ap (λ (w : WrittenOut). callAt (w .target) 0) all
+          ∙ ap (λ (l : List ℕ). callAt l 0) (front body target h)
+          ∙ at-front call (drop (lineSize body) target) f;
+      behind = rw all (back body target h);
     }

@@ -26,11 +26,15 @@ WrittenIsRead = (call : Call) (target : List ℕ) → CallFits call → lineSize
 
 -- A buffer that is too short: 20.
 abbrev pub NoRoomIsTwenty : Type 0
-NoRoomIsTwenty = (call : Call) (target : List ℕ) → CallFits call → length target < lineSize (callBytes call) → written (callBytes call) target .given ≡ Written.Refused Refusal.NoRoom
+NoRoomIsTwenty =
+    (call : Call) (target : List ℕ) → CallFits call → length target < lineSize (callBytes call)
+    → written (callBytes call) target .given ≡ Written.Refused Refusal.NoRoom
 
 -- Flags over 15: 18, whatever room there is.
 abbrev pub FlagsBeforeRoom : Type 0
-FlagsBeforeRoom = (flags poc layer gap : ℕ) (target : List ℕ) → 15 < flags → written (callBytes (PutPic flags poc layer gap)) target .given ≡ Written.Refused Refusal.BadLine
+FlagsBeforeRoom =
+    (flags poc layer gap : ℕ) (target : List ℕ) → 15 < flags
+    → written (callBytes (PutPic flags poc layer gap)) target .given ≡ Written.Refused Refusal.BadLine
 
 -- Neither refusal writes anything.
 abbrev pub RefusedUnwritten : Type 0

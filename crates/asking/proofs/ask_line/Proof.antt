@@ -23,7 +23,12 @@ returns c =
     let test = done .before .before in
     let start = test .before .before .before .before in
     rw (lt-ltb 1023 (length (start .args .line .now)) (test .if1 .taken))
-    (record { to-out = record { holds = refl; behind = refl }; to-err = done .complain .ensures .0; out-short = omega arith; err-short = done .complain .ensures .1 })
+    (record {
+      to-out = record { holds = refl; behind = refl };
+      to-err = done .complain .ensures .0;
+      out-short = omega arith;
+      err-short = done .complain .ensures .1;
+    })
 
 read-command-requires : tie.Need-read-command-requires
 read-command-requires c κs = search needs
@@ -56,7 +61,12 @@ returns-2 c =
     let start = test .before .before .before .before in
     let is = ap (askedFor (start .args .number)) (sym (read .read-command .ensures .0) ∙ told .enum-told .given .1) in
     rw (le-ltb 1023 (length (start .args .line .now)) (test .if1 .left), is)
-    (record { to-out = record { holds = refl; behind = refl }; to-err = record { holds = refl; behind = refl }; out-short = omega arith; err-short = omega arith })
+    (record {
+      to-out = record { holds = refl; behind = refl };
+      to-err = record { holds = refl; behind = refl };
+      out-short = omega arith;
+      err-short = omega arith;
+    })
 
 same-length-2 : tie.Need-same-length-2
 same-length-2 c = search needs
@@ -71,7 +81,12 @@ returns-3 c =
     let start = test .before .before .before .before in
     let is = ap (askedFor (start .args .number)) (sym (read .read-command .ensures .0) ∙ told .call .given .1) in
     rw (le-ltb 1023 (length (start .args .line .now)) (test .if1 .left), is)
-    (record { to-out = done .write-line .ensures .0; to-err = record { holds = refl; behind = refl }; out-short = done .write-line .ensures .1; err-short = omega arith })
+    (record {
+      to-out = done .write-line .ensures .0;
+      to-err = record { holds = refl; behind = refl };
+      out-short = done .write-line .ensures .1;
+      err-short = omega arith;
+    })
 
 same-length-3 : tie.Need-same-length-3
 same-length-3 c = search needs
@@ -86,7 +101,12 @@ returns-4 c =
     let start = test .before .before .before .before in
     let is = ap (askedFor (start .args .number)) (sym (read .read-command .ensures .0) ∙ told .want .given .1) in
     rw (le-ltb 1023 (length (start .args .line .now)) (test .if1 .left), is)
-    (record { to-out = record { holds = refl; behind = refl }; to-err = done .complain2 .ensures .0; out-short = omega arith; err-short = done .complain2 .ensures .1 })
+    (record {
+      to-out = record { holds = refl; behind = refl };
+      to-err = done .complain2 .ensures .0;
+      out-short = omega arith;
+      err-short = done .complain2 .ensures .1;
+    })
 
 pub ask-line-spec : {M : Type 1} → statement M
 ask-line-spec =

@@ -22,7 +22,8 @@ returns c =
     let told = c .before in
     let wrote = told .before .before .before .before in
     let start = wrote .before .before .before in
-    line-added (start .args .call) (start .args .out .now) (start .pre .0) (start .pre .1) (wrote .write-call .result) _ (wrote .write-call .ensures) _ (told .n .given .1)
+    line-added (start .args .call) (start .args .out .now) (start .pre .0) (start .pre .1) (wrote .write-call .result) _
+    (wrote .write-call .ensures) _ (told .n .given .1)
 
 same-length-2 : tie.Need-same-length-2
 same-length-2 c = search needs
@@ -32,7 +33,9 @@ returns-2 c =
     let told = c in
     let wrote = told .before .before .before .before in
     let start = wrote .before .before .before in
-    absurd (line-not-refused (start .args .call) (start .args .out .now) (start .pre .0) (start .pre .1) (wrote .write-call .result) _ (wrote .write-call .ensures) _ (told .enum-told .given .1))
+    absurd
+    (line-not-refused (start .args .call) (start .args .out .now) (start .pre .0) (start .pre .1) (wrote .write-call .result) _
+    (wrote .write-call .ensures) _ (told .enum-told .given .1))
 
 pub write-line-spec : {M : Type 1} → statement M
 write-line-spec =

@@ -1,8 +1,6 @@
 -- `between::derived_plan` meets its contract: each arm is told what the derivation answered. Assumes nothing.
-use mathlib.Core.Path.{sym, ap, _∙_}
+use mathlib.Core.Path.{sym, _∙_}
 use borrow.Author.Needs.{needs}
-use Rattle.poc.specs.declared.PocAnswer.{PocAnswer}
-use Rattle.gop.specs.Plan.{derivedPlan}
 use Rattle.between.proofs.derived_plan.Statement.{statement}
 use Rattle.between.proofs.derived_plan.Tie as tie
 
@@ -23,14 +21,14 @@ returns c =
     let known = c .before .before in
     let s = known .before .before in
     c .planned .ensures
-    ∙ sym (ap (λ (a : PocAnswer). derivedPlan (s .args .inter) (s .args .slice-depth) (s .args .slice-ref-flag) a (s .args .poc)) (known .answer .given .1))
+    ∙ sym (rw (known .answer .given .1))
 
 returns-2 : tie.Need-returns-2
 returns-2 c =
     let known = c .before .before in
     let s = known .before .before in
     c .refused .ensures
-    ∙ sym (ap (λ (a : PocAnswer). derivedPlan (s .args .inter) (s .args .slice-depth) (s .args .slice-ref-flag) a (s .args .poc)) (known .answer2 .given .1))
+    ∙ sym (rw (known .answer2 .given .1))
 
 pub derived-plan-spec : {M : Type 1} → statement M
 derived-plan-spec =

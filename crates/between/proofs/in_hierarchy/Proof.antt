@@ -41,7 +41,14 @@ returns c =
     let log2 = derived .before in
     let s = log2 .before .before .before in
     let m : s .args .gop-size - 2 ≡ s .args .gop-size - 1 - 1 = omega arith in
-    rw (c .derived-plan .ensures, derived .poc-derivation .ensures, log2 .log2-of .ensures, log2 .before .depth-at2 .ensures, log2 .before .before .depth-at .ensures, m)
+    rw (
+      c .derived-plan .ensures,
+      derived .poc-derivation .ensures,
+      log2 .log2-of .ensures,
+      log2 .before .depth-at2 .ensures,
+      log2 .before .before .depth-at .ensures,
+      m,
+    )
 
 pub in-hierarchy-spec : {M : Type 1} → statement M
 in-hierarchy-spec =

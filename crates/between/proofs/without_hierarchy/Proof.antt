@@ -64,7 +64,10 @@ returns : tie.Need-returns
 returns c =
     let s = c .before .before in
     let h = s .pre in
-    rw (number-is (s .args .pic-imcnt) (s .args .gop-size) (h .0) (h .1) (h .3), toZ-pos w32 (s .args .pic-imcnt - s .args .gop-size) (omega arith)) at (c .planned .ensures)
+    rw (
+      number-is (s .args .pic-imcnt) (s .args .gop-size) (h .0) (h .1) (h .3),
+      toZ-pos w32 (s .args .pic-imcnt - s .args .gop-size) (omega arith),
+    ) at (c .planned .ensures)
 
 pub without-hierarchy-spec : {M : Type 1} → statement M
 without-hierarchy-spec =

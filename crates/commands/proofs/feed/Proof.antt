@@ -22,13 +22,23 @@ close-requires-2 : tie.Need-close-requires-2
 close-requires-2 c κs = search needs
 
 returns-3 : tie.Need-returns-3
-returns-3 c = rw (c .before .before .before .before .if1 .left, ne-eqb (c .before .before .before .before .before .args .c) 35 (c .before .before .before .if2 .left), sym (c .before .before .is-space .ensures) ∙ c .before .if3 .taken) (c .close2 .ensures)
+returns-3 c =
+    rw (
+      c .before .before .before .before .if1 .left,
+      ne-eqb (c .before .before .before .before .before .args .c) 35 (c .before .before .before .if2 .left),
+      sym (c .before .before .is-space .ensures) ∙ c .before .if3 .taken,
+    ) (c .close2 .ensures)
 
 extend-requires : tie.Need-extend-requires
 extend-requires c κs = search needs
 
 returns-4 : tie.Need-returns-4
-returns-4 c = rw (c .before .before .before .before .if1 .left, ne-eqb (c .before .before .before .before .before .args .c) 35 (c .before .before .before .if2 .left), sym (c .before .before .is-space .ensures) ∙ c .before .if3 .left) (c .extend .ensures)
+returns-4 c =
+    rw (
+      c .before .before .before .before .if1 .left,
+      ne-eqb (c .before .before .before .before .before .args .c) 35 (c .before .before .before .if2 .left),
+      sym (c .before .before .is-space .ensures) ∙ c .before .if3 .left,
+    ) (c .extend .ensures)
 
 pub feed-spec : {M : Type 1} → statement M
 feed-spec =

@@ -52,7 +52,8 @@ returns-2 c =
 good-record : (c : tie.Else2) → badRecord (c .before .before .before .args .poc) ≡ false
 good-record c = sym (c .before .is-bad-record .ensures) ∙ c .if2 .left
 
-passed : (c : tie.Else2) → Checked (c .before .before .before .args .log2-sub-gop-length) (c .before .before .before .args .tid) (c .before .before .before .args .poc)
+passed : (c : tie.Else2)
+    → Checked (c .before .before .before .args .log2-sub-gop-length) (c .before .before .before .args .tid) (c .before .before .before .args .poc)
 passed c = checked _ _ _ (c .before .before .if1 .left) (good-record c)
 
 key-picture-requires : tie.Need-key-picture-requires

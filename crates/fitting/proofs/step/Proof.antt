@@ -1,11 +1,9 @@
 -- `fitting::step` meets its contract: the arm of a wanted word is the entry at its number.
 -- Assumes nothing.
-use mathlib.Core.List.{[], _∷_}
 use Rattle.tokens.specs.declared.Word.{Word}
 use Rattle.drafts.specs.declared.Draft.{Draft}
 use Rattle.progress.specs.Progress.{failed}
-use Rattle.naming.specs.Names.{commandWord, sliceWord, pictureWord, putPart, listPart}
-use Rattle.fitting.specs.Steps.{firstWord, secondWord, numberWord, layerWord, gapWord, intraWord, limitWord, step}
+use Rattle.fitting.specs.Steps.{stepsFor, step}
 use mathlib.Core.Path.{_≡_, sym, _∙_}
 use lib.ListN.{List·getD-eq-default}
 use Prim.Native.Nat.{ℕ, _+_, _≤_}
@@ -59,11 +57,7 @@ above h other = omega arith
 -- from 12 on no word is wanted
 none-wanted : (d : Draft) (w : Word) → 12 ≤ d .want → step d w ≡ failed d
 unfolding step
-none-wanted d w h =
-    List·getD-eq-default
-    (commandWord d w ∷ firstWord d w ∷ secondWord d w ∷ sliceWord d w ∷ numberWord d w ∷ pictureWord d w ∷ putPart d w ∷ listPart d w ∷ layerWord d w ∷ gapWord d w ∷ intraWord d w ∷ limitWord d w ∷ [])
-    (failed d)
-    h
+none-wanted d w h = List·getD-eq-default (stepsFor d w) (failed d) h
 
 returns : tie.Need-returns
 unfolding step
@@ -117,7 +111,18 @@ returns-13 : tie.Need-returns-13
 unfolding step
 returns-13 c =
     let rest = c .before .match .rest in
-    let many : 12 ≤ c .before .before .args .d .want = above (above (above (above (above (above (above (above (above (above (above (above (omega arith) (rest .0 .0 .0 .0 .0 .0 .0 .0 .0 .0 .0 .1)) (rest .0 .0 .0 .0 .0 .0 .0 .0 .0 .0 .1)) (rest .0 .0 .0 .0 .0 .0 .0 .0 .0 .1)) (rest .0 .0 .0 .0 .0 .0 .0 .0 .1)) (rest .0 .0 .0 .0 .0 .0 .0 .1)) (rest .0 .0 .0 .0 .0 .0 .1)) (rest .0 .0 .0 .0 .0 .1)) (rest .0 .0 .0 .0 .1)) (rest .0 .0 .0 .1)) (rest .0 .0 .1)) (rest .0 .1)) (rest .1) in
+    let from1 : 1 ≤ c .before .before .args .d .want = above (omega arith) (rest .0 .0 .0 .0 .0 .0 .0 .0 .0 .0 .0 .1) in
+    let from2 = above from1 (rest .0 .0 .0 .0 .0 .0 .0 .0 .0 .0 .1) in
+    let from3 = above from2 (rest .0 .0 .0 .0 .0 .0 .0 .0 .0 .1) in
+    let from4 = above from3 (rest .0 .0 .0 .0 .0 .0 .0 .0 .1) in
+    let from5 = above from4 (rest .0 .0 .0 .0 .0 .0 .0 .1) in
+    let from6 = above from5 (rest .0 .0 .0 .0 .0 .0 .1) in
+    let from7 = above from6 (rest .0 .0 .0 .0 .0 .1) in
+    let from8 = above from7 (rest .0 .0 .0 .0 .1) in
+    let from9 = above from8 (rest .0 .0 .0 .1) in
+    let from10 = above from9 (rest .0 .0 .1) in
+    let from11 = above from10 (rest .0 .1) in
+    let many : 12 ≤ c .before .before .args .d .want = above from11 (rest .1) in
     c .failed .ensures ∙ sym (none-wanted (c .before .before .args .d) (c .before .before .args .w) many)
 
 pub step-spec : {M : Type 1} → statement M

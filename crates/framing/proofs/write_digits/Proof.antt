@@ -2,7 +2,7 @@
 -- Assumes nothing.
 use Prim.Native.Nat.{ℕ, _+_, _-_, _*_, _/_, _%_}
 use native.Mathlib.Omega.{arith}
-use mathlib.Core.Path.{_≡_, refl, ap}
+use mathlib.Core.Path.{_≡_, refl}
 use mathlib.Core.List.{List, [], _∷_, flatMap}
 use lib.ListN.{length, getD, set, length-set}
 use Rattle.seq.specs.Lists.{Stored}
@@ -24,7 +24,7 @@ pair-stored target i b h l e f =
 all-digits : (bs : List ℕ) → flatMap digits bs ≡ digitsOf bs
 unfolding flatMap digitsOf
 all-digits [] = refl
-all-digits (b ∷ bs) = ap (λ (l : List ℕ). digitOf (b / 16) ∷ digitOf (b % 16) ∷ l) (all-digits bs)
+all-digits (b ∷ bs) = rw (all-digits bs)
 
 abbrev Inv-loop : tie.InvT-loop
 Inv-loop target₀ bytes i₀ target i = Storing digits 2 target₀ 0 bytes (length bytes) i target

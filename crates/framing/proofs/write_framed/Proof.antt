@@ -1,8 +1,7 @@
 -- `framing::write_framed` meets its contract: the digits of the body, those of its check byte, and the newline.
 -- Assumes nothing.
 use native.Mathlib.Omega.{arith}
-use mathlib.Core.Path.{refl, ap, _∙_}
-use Prim.Native.Nat.{ℕ, _-_, _%_}
+use mathlib.Core.Path.{refl}
 use lib.ListN.{length-set}
 use Rattle.framing.proofs.Pasted.{stored-paste, line-stored}
 use borrow.Author.Needs.{needs}
@@ -55,8 +54,13 @@ returns c =
     let check = written .before .before in
     let s = check .before .before .before .before in
     let body = s .args .body .now in
-    let sum = check .check-byte .ensures ∙ ap (λ (n : ℕ). (256 - n) % 256) (check .before .sum8 .ensures) in
-    (refl, stored-paste (line-stored body (check .check-byte .result) (high .high-digit .result) (c .low-digit .result) (written .write-digits .ensures) sum (high .high-digit .ensures) (c .low-digit .ensures)) (omega arith))
+    let sum = rw (check .before .sum8 .ensures) at (check .check-byte .ensures) in (
+      refl,
+      stored-paste
+          (line-stored body (check .check-byte .result) (high .high-digit .result) (c .low-digit .result)
+          (written .write-digits .ensures) sum (high .high-digit .ensures) (c .low-digit .ensures))
+          (omega arith),
+    )
 
 pub write-framed-spec : {M : Type 1} → statement M
 write-framed-spec =

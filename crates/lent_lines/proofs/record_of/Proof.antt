@@ -1,8 +1,6 @@
 -- `lent_lines::record_of` meets its contract: each arm is told what was read.
 -- Assumes nothing.
-use mathlib.Core.Path.{sym, ap, _∙_}
-use Rattle.reader.specs.declared.Read.{Read}
-use Rattle.lent_lines.specs.LentLines.{recordOf}
+use mathlib.Core.Path.{sym, _∙_}
 use borrow.Author.Needs.{needs}
 use Rattle.lent_lines.proofs.record_of.Statement.{statement}
 use Rattle.lent_lines.proofs.record_of.Tie as tie
@@ -26,13 +24,13 @@ no-answer-requires-2 : tie.Need-no-answer-requires-2
 no-answer-requires-2 c κs = search needs
 
 returns : tie.Need-returns
-returns c = c .place-record .ensures ∙ sym (ap (λ (r : Read). recordOf r (c .before .before .before .before .args .next)) (c .before .before .read .given .1))
+returns c = c .place-record .ensures ∙ sym (rw (c .before .before .read .given .1))
 
 returns-2 : tie.Need-returns-2
-returns-2 c = c .no-answer .ensures ∙ sym (ap (λ (r : Read). recordOf r (c .before .before .before .args .next)) (c .before .enum-told .given .1))
+returns-2 c = c .no-answer .ensures ∙ sym (rw (c .before .enum-told .given .1))
 
 returns-3 : tie.Need-returns-3
-returns-3 c = c .no-answer2 .ensures ∙ sym (ap (λ (r : Read). recordOf r (c .before .before .before .args .next)) (c .before .enum-told2 .given .1))
+returns-3 c = c .no-answer2 .ensures ∙ sym (rw (c .before .enum-told2 .given .1))
 
 pub record-of-spec : {M : Type 1} → statement M
 record-of-spec =

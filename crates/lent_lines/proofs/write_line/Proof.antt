@@ -17,7 +17,8 @@ same-length c = search needs
 
 returns : tie.Need-returns
 unfolding wroteOut
-returns c = rw (c .written-status .ensures) (ap (λ (w : WrittenOut). lentOut (writtenStatus (w .given)) (w .target)) (c .before .before .before .write-fields .ensures))
+returns c =
+    rw (c .written-status .ensures) (ap (λ (w : WrittenOut). lentOut (writtenStatus (w .given)) (w .target)) (c .before .before .before .write-fields .ensures))
 
 pub write-line-spec : {M : Type 1} → statement M
 write-line-spec =

@@ -140,7 +140,8 @@ record Summed (s : tie.Start) (prev : ℕ) (offset : ℤ) : Type 0 where
 
 -- the search's result
 found-is : (c : tie.After-doc-offset-from)
-    → c .doc-offset-from .result .0 ≡ pos (found (start (c .before .before) .args .log2-sub-gop-length) (start (c .before .before) .args .tid) (start (c .before .before) .args .poc))
+    → c .doc-offset-from .result .0
+    ≡ pos (found (start (c .before .before) .args .log2-sub-gop-length) (start (c .before .before) .args .tid) (start (c .before .before) .args .poc))
 found-is c =
     let s = start (c .before .before) in
     c .doc-offset-from .ensures
@@ -181,8 +182,10 @@ returns-2 c =
     let fits = sum (c .before) .fits in
     let is-number = ap (λ (z : ℤ). toZ w32 (ofZ w32 z)) (sum (c .before) .is) ∙ toZ-ofZ w32 _ (number-fits (s .pre .1) (s .pre .0) fits) in
     c .accepted .ensures
-    ∙ ap₂ (λ (z : ℤ) (prev : ℕ). derivedAs (record { 0 = z }) prev (c .before .before .doc-offset-from .result)) is-number (previous-is (c .before .before .before .before))
-    ∙ ap (λ (w : ℤ). derivedAs (record { 0 = number (nextPrevious L r) L t (found L t r) }) (nextPrevious L r) (record { 0 = w })) (found-is (c .before .before))
+    ∙ ap₂ (λ (z : ℤ) (prev : ℕ). derivedAs (record { 0 = z }) prev (c .before .before .doc-offset-from .result)) is-number
+    (previous-is (c .before .before .before .before))
+    ∙ ap (λ (w : ℤ). derivedAs (record { 0 = number (nextPrevious L r) L t (found L t r) }) (nextPrevious L r) (record { 0 = w }))
+    (found-is (c .before .before))
     ∙ sym (settled-fits r (number (nextPrevious L r) L t (found L t r)) (nextPrevious L r) (found L t r) (number-low (s .pre .1) (s .pre .0) fits) fits)
 
 pub other-picture-spec : {M : Type 1} → statement M

@@ -28,7 +28,14 @@ module _ {L t : ℕ} {z : ℤ} (h : OfLayer L t z) where
 
   as-number : OfLayer L t (pos (offsetOf z))
   as-number =
-      record { layer-low = h .layer-low; layer-high = h .layer-high; short = h .short; is-offset = refl; offset-low = h .offset-low; offset-high = h .offset-high }
+      record {
+        layer-low = h .layer-low;
+        layer-high = h .layer-high;
+        short = h .short;
+        is-offset = refl;
+        offset-low = h .offset-low;
+        offset-high = h .offset-high;
+      }
 
   read-back : toZ w32 (ofZ w32 z) ≡ pos (offsetOf z)
   read-back = let a = small in as-signed z (offsetOf z) (h .is-offset) (omega arith)

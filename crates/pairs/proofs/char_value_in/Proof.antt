@@ -1,10 +1,7 @@
 -- `pairs::char_value_in` meets its contract. Assumes nothing.
 use Prim.Native.Nat.{_<_}
 use native.Mathlib.Omega.{arith}
-use mathlib.Core.Path.{_≡_, ap, _∙_}
-use mathlib.Core.List.{List}
-use Prim.Native.Nat.{ℕ}
-use lib.ListN.{getD}
+use mathlib.Core.Path.{_≡_, _∙_}
 use borrow.Author.Tests.{lt-ltb}
 use Rattle.seq.proofs.Rows.{entry}
 use Rattle.hex.specs.Hex.{tableEntry, charValue, digitTables}
@@ -24,7 +21,7 @@ returns c =
     let n = c .before .args .c in
     let small : n < 256 = omega arith in
     let rule : tableEntry n ≡ charValue n = rw (lt-ltb n 256 small) in
-    ap (λ (t : List ℕ). getD t n 0) (c .before .pre) ∙ entry tableEntry 0 512 n (omega arith) ∙ rule
+    rw (c .before .pre) (entry tableEntry 0 512 n (omega arith) ∙ rule)
 
 pub char-value-in-spec : {M : Type 1} → statement M
 char-value-in-spec = tie.close (tie.spec mul-result element-copy-out-result returns)

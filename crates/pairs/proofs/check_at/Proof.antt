@@ -23,7 +23,8 @@ returns : tie.Need-returns
 returns c =
     let a = c .before .before .before .before .before .args in
     let pair = c .before .before .before .pair-at .ensures in
-    rw pair (ends (a .buffer .now) (a .at) (a .sum) (c .before .plus .result) (a .good) (c .before .plus .ensures ∙ ap (λ (p : Pair). (a .sum + p .byte) % 256) pair))
+    rw pair
+    (ends (a .buffer .now) (a .at) (a .sum) (c .before .plus .result) (a .good) (c .before .plus .ensures ∙ ap (λ (p : Pair). (a .sum + p .byte) % 256) pair))
 
 pub check-at-spec : {M : Type 1} → statement M
 check-at-spec =

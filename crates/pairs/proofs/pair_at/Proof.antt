@@ -33,7 +33,12 @@ cast-t7 c = search needs
 returns : tie.Need-returns
 returns c =
     let a = c .before .before .before .before .before .args in
-    rw (c .before .before .char-value-in .ensures, c .char-value-in2 .ensures, digit-test (getD (a .buffer .now) (a .at) 0), digit-test (getD (a .buffer .now) (a .at + 1) 0))
+    rw (
+      c .before .before .char-value-in .ensures,
+      c .char-value-in2 .ensures,
+      digit-test (getD (a .buffer .now) (a .at) 0),
+      digit-test (getD (a .buffer .now) (a .at + 1) 0),
+    )
 
 pub pair-at-spec : {M : Type 1} → statement M
 pair-at-spec =

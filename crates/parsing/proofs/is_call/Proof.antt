@@ -1,6 +1,6 @@
 -- `parsing::is_call` meets its contract. Assumes nothing.
-use mathlib.Core.Path.{sym, ap, _∙_}
-use mathlib.Core.Bool.{Bool, _&&_, and-true}
+use mathlib.Core.Path.{sym}
+use mathlib.Core.Bool.{and-true}
 use lib.Dec.{eqb}
 use borrow.Author.Tests.{ne-eqb, eq-eqb}
 use Rattle.hex.proofs.HexLaws.{not-second}
@@ -21,7 +21,7 @@ returns-2 : tie.Need-returns-2
 returns-2 c =
     let a = c .before .before .args in
     let first = eqb (byteAt (a .body .now) 0) (a .call) in
-    sym (and-true first) ∙ ap (λ (b : Bool). first && b) (sym (eq-eqb _ (a .size) (c .before .if1 .left)))
+    rw (← eq-eqb _ (a .size) (c .before .if1 .left)) at (sym (and-true first))
 
 pub is-call-spec : {M : Type 1} → statement M
 is-call-spec = tie.close (tie.spec returns shared-slice-read-result returns-2)

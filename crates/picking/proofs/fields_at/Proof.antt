@@ -59,16 +59,24 @@ returns c =
     let second = read .before .pair-at2 .ensures in
     let word = read .quad-at2 .ensures in
     let one = summed-call (omega arith) (s .pre .1) in
-    let two = summed-pair (at + 2) (summed .before .before .before .plus .result) refl one (summed .before .before .before .plus .ensures ∙ ap (λ (p : Pair). (s .args .call + p .byte) % 256) first) in
-    let six = summed-quad (at + 4) (summed .before .before .plus2 .result) refl two (summed .before .before .plus2 .ensures ∙ ap (λ (q : Quad). (summed .before .before .before .plus .result + q .sum) % 256) poc) in
-    let seven = summed-pair (at + 12) (summed .before .plus3 .result) refl six (summed .before .plus3 .ensures ∙ ap (λ (p : Pair). (summed .before .before .plus2 .result + p .byte) % 256) second) in
-    let eleven = summed-quad (at + 14) (summed .plus4 .result) refl seven (summed .plus4 .ensures ∙ ap (λ (q : Quad). (summed .before .plus3 .result + q .sum) % 256) word) in
+    let two =
+    summed-pair (at + 2) (summed .before .before .before .plus .result) refl one
+    (summed .before .before .before .plus .ensures ∙ ap (λ (p : Pair). (s .args .call + p .byte) % 256) first) in
+    let six =
+    summed-quad (at + 4) (summed .before .before .plus2 .result) refl two
+    (summed .before .before .plus2 .ensures ∙ ap (λ (q : Quad). (summed .before .before .before .plus .result + q .sum) % 256) poc) in
+    let seven =
+    summed-pair (at + 12) (summed .before .plus3 .result) refl six
+    (summed .before .plus3 .ensures ∙ ap (λ (p : Pair). (summed .before .before .plus2 .result + p .byte) % 256) second) in
+    let eleven =
+    summed-quad (at + 14) (summed .plus4 .result) refl seven
+    (summed .plus4 .ensures ∙ ap (λ (q : Quad). (summed .before .plus3 .result + q .sum) % 256) word) in
     record {
       summed = rw (first, poc, second, word) eleven;
-      lead = ap (λ (p : Pair). p .byte) first ∙ sym (pair-entry cs at 11 1 (omega arith));
-      poc = ap (λ (q : Quad). q .value) poc ∙ quad-value cs at 11 2 (at + 4) (omega arith) refl;
-      layer = ap (λ (p : Pair). p .byte) second ∙ sym (pair-entry cs at 11 6 (omega arith));
-      span = ap (λ (q : Quad). q .value) word ∙ quad-value cs at 11 7 (at + 14) (omega arith) refl;
+      lead = rw first (sym (pair-entry cs at 11 1 (omega arith)));
+      poc = rw poc (quad-value cs at 11 2 (at + 4) (omega arith) refl);
+      layer = rw second (sym (pair-entry cs at 11 6 (omega arith)));
+      span = rw word (quad-value cs at 11 7 (at + 14) (omega arith) refl);
     }
 
 pub fields-at-spec : {M : Type 1} → statement M

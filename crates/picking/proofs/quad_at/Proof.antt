@@ -41,7 +41,16 @@ returns c =
     let summed = c .before .before .before .before in
     let numbered = summed .before .before .before in
     let read = numbered .before in
-    rw (numbered .word .ensures, summed .plus3 .ensures, summed .before .plus2 .ensures, summed .before .before .plus .ensures, read .before .before .before .pair-at .ensures, read .before .before .pair-at2 .ensures, read .before .pair-at3 .ensures, read .pair-at4 .ensures)
+    rw (
+      numbered .word .ensures,
+      summed .plus3 .ensures,
+      summed .before .plus2 .ensures,
+      summed .before .before .plus .ensures,
+      read .before .before .before .pair-at .ensures,
+      read .before .before .pair-at2 .ensures,
+      read .before .pair-at3 .ensures,
+      read .pair-at4 .ensures,
+    )
 
 pub quad-at-spec : {M : Type 1} → statement M
 quad-at-spec =

@@ -56,8 +56,10 @@ returns-2 c =
     let first = read .before .pair-at .ensures in
     let second = read .pair-at2 .ensures in
     let one = summed-call (omega arith) (s .pre .1) in
-    let two = summed-pair (at + 2) (summed .before .plus .result) refl one (summed .before .plus .ensures ∙ ap (λ (p : Pair). (s .args .call + p .byte) % 256) first) in
-    let three = summed-pair (at + 4) (summed .plus2 .result) refl two (summed .plus2 .ensures ∙ ap (λ (p : Pair). (summed .before .plus .result + p .byte) % 256) second) in
+    let two =
+    summed-pair (at + 2) (summed .before .plus .result) refl one (summed .before .plus .ensures ∙ ap (λ (p : Pair). (s .args .call + p .byte) % 256) first) in
+    let three =
+    summed-pair (at + 4) (summed .plus2 .result) refl two (summed .plus2 .ensures ∙ ap (λ (p : Pair). (summed .before .plus .result + p .byte) % 256) second) in
     record {
       good = c .check-at .ensures at 3 refl (rw (first, second) three);
       byte1 = λ e. ap (λ (p : Pair). p .byte) first ∙ sym (pair-entry cs at 3 1 (omega arith));

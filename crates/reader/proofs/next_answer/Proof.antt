@@ -20,9 +20,11 @@ use ghost.Atoms.{Atoms, sem}
 use contract.Lifetimes.{AllOutlive}
 use contract.Monad.{Fun, fact}
 use contract.Running.{givenOf, tables, tablesOf}
-use types.Kit.{Given, ‵, raw, _⊛_, given, ⋆, some, later, _$_, _∵_, !, qed, by, move, keep, drop, use1, use2, split, join, learn, pick, rewrite, fsplit, fsplit3, fjoin, fjoin3, feqI, suffices, frame, await, done}
+use types.Kit.{Given, ‵, raw, _⊛_, given, ⋆, some, later, _$_, _∵_, !, qed, by, move, keep, drop, use1, use2, split, join, learn, pick}
+use types.Kit.{rewrite, fsplit, fsplit3, fjoin, fjoin3, feqI, suffices, frame, await, done}
 use types.Part.{whole, sub, look-in, store-in}
-use types.Run.{look, init, forget, stop, hop, fld, from, load, of-opd, and-then, no-more, assigns, land, returns, enter, alloc1, alloc0, params1, pass1, pass0, free1, free0}
+use types.Run.{look, init, forget, stop, hop, fld, from, load, of-opd, and-then, no-more, assigns, land, returns, enter, alloc1, alloc0}
+use types.Run.{params1, pass1, pass0, free1, free0}
 use types.SemTy.{Body}
 use sound.WpLaws.{FmC, fmOf, WpFn-mono}
 use denote.RattleType.{RattleType, owns}
@@ -89,7 +91,9 @@ module _ {M : Type 1} (𝓤 : URA M) (H : Heap 𝓤) (A : Atoms 𝓤) (mem : Mem
   abbrev Answer : Contract 𝓤
   Answer = tripleOf 𝓤 H A answer.signature (answer.spec 𝓤 H A mem run)
 
-module _ {M : Type 1} (𝓤 : URA M) (H : Heap 𝓤) (A : Atoms 𝓤) (W : Given 𝓤 H A) (at-mem : Memory → SProp 𝓤) (run : Routine → Fun 𝓤) (κ κ′ : Lft) (q q′ : Share) (bounds : AllOutlive 2 (next.signature .outlives) (κ, (κ′, tt))) (b o : ℕ) (γ : GName) (h : AnswerReader) where
+module _ {M : Type 1} (𝓤 : URA M) (H : Heap 𝓤) (A : Atoms 𝓤) (W : Given 𝓤 H A) (at-mem : Memory → SProp 𝓤) (run : Routine → Fun 𝓤)
+    (κ κ′ : Lft) (q q′ : Share) (bounds : AllOutlive 2 (next.signature .outlives) (κ, (κ′, tt))) (b o : ℕ) (γ : GName)
+    (h : AnswerReader) where
   abbrev x : RefT AnswerReader × Unit {0}
   x = (record { ptr = (b, o); name = γ; now = h }, tt)
 
@@ -140,19 +144,25 @@ module _ {M : Type 1} (𝓤 : URA M) (H : Heap 𝓤) (A : Atoms 𝓤) (W : Given
   to-answer = (((κ′, tt), (q′, tt), tt, (h .lines, (h .at, tt)), passed), tt)
 
   asked-after : ent 𝓤 (onEntry 𝓤 H A after.signature (κ′, tt) (q′, tt) (h .lines, (h .at, tt)) passed) (After 𝓤 H A at-mem run .pre to-after)
-  asked-after = qed W ((‵ (flft κ′ q′) ⊛ ‵ ftrue) ∷ ‵ (owns (ShrSlice (named 0) κ′ u8 ∷ usize ∷ []) (h .lines, (h .at, tt)) passed) ∷ []) ∵ join ! $ frame ! $ done !
+  asked-after =
+      qed W ((‵ (flft κ′ q′) ⊛ ‵ ftrue) ∷ ‵ (owns (ShrSlice (named 0) κ′ u8 ∷ usize ∷ []) (h .lines, (h .at, tt)) passed) ∷ []) ∵ join ! $ frame ! $ done !
 
   asked-answer : ent 𝓤 (onEntry 𝓤 H A answer.signature (κ′, tt) (q′, tt) (h .lines, (h .at, tt)) passed) (Answer 𝓤 H A at-mem run .pre to-answer)
-  asked-answer = qed W ((‵ (flft κ′ q′) ⊛ ‵ ftrue) ∷ ‵ (owns (ShrSlice (named 0) κ′ u8 ∷ usize ∷ []) (h .lines, (h .at, tt)) passed) ∷ []) ∵ join ! $ frame ! $ done !
+  asked-answer =
+      qed W ((‵ (flft κ′ q′) ⊛ ‵ ftrue) ∷ ‵ (owns (ShrSlice (named 0) κ′ u8 ∷ usize ∷ []) (h .lines, (h .at, tt)) passed) ∷ []) ∵ join ! $ frame ! $ done !
 
   -- what the struct owns gives what a callee asks, and is kept
-  lent : h .at < 2 ^ 64 → ent 𝓤 (sep 𝓤 (sep 𝓤 (A .lft κ′ q′) (emp 𝓤)) (sem 𝓤 H A Own)) (sep 𝓤 (onEntry 𝓤 H A after.signature (κ′, tt) (q′, tt) (h .lines, (h .at, tt)) passed) (sem 𝓤 H A Own))
+  lent : h .at < 2 ^ 64
+      → ent 𝓤 (sep 𝓤 (sep 𝓤 (A .lft κ′ q′) (emp 𝓤)) (sem 𝓤 H A Own))
+      (sep 𝓤 (onEntry 𝓤 H A after.signature (κ′, tt) (q′, tt) (h .lines, (h .at, tt)) passed) (sem 𝓤 H A Own))
   lent fits =
       qed W ((‵ (flft κ′ q′) ⊛ ‵ ftrue) ∷ ‵ Own ∷ []) ∵
       move ! (1 ∷ []) $ use1 W (‵ Own ⊛ ‵ Own) (LL.copy D (T′.the-copy (α κ′)) 𝓤 H A W .twice h (mach ∷ [])) $ split ! $
-      use1 W (given (mach ∷ [] ≡ mach ∷ []) (‵ (all-own (D .parts) L vh))) (own-open 𝓤 H A W D L vh mach) $ learn ! (λ _. use1 W (‵ (ownAt (D .parts) L 0 (h .lines)) ⊛ ‵ (rest (D .parts) L 0 vh)) (own-out 𝓤 H A W (D .parts) L 0 vh) $ split ! $
+      use1 W (given (mach ∷ [] ≡ mach ∷ []) (‵ (all-own (D .parts) L vh))) (own-open 𝓤 H A W D L vh mach) $
+      learn ! (λ _. use1 W (‵ (ownAt (D .parts) L 0 (h .lines)) ⊛ ‵ (rest (D .parts) L 0 vh)) (own-out 𝓤 H A W (D .parts) L 0 vh) $ split ! $
       -- [what lines owns; what at owns; what the struct owns; the token]
-      move ! (1 ∷ []) $ drop ! $ nothing ! $ owned ! usize (Is usize) (uint-makes 𝓤 H A W w64) (h .at) _ (refl, fits) $ fjoin ! $ move ! (1 ∷ 0 ∷ []) $ fjoin ! $
+      move ! (1 ∷ []) $ drop ! $ nothing ! $ owned ! usize (Is usize) (uint-makes 𝓤 H A W w64) (h .at) _ (refl, fits) $ fjoin ! $
+      move ! (1 ∷ 0 ∷ []) $ fjoin ! $
       move ! (2 ∷ 0 ∷ []) $ join ! $ frame ! $ done !)
 
   to-pre-after : h .at < 2 ^ 64 → ent 𝓤 (sep 𝓤 (sep 𝓤 (A .lft κ′ q′) (emp 𝓤)) (sem 𝓤 H A Own)) (sep 𝓤 (After 𝓤 H A at-mem run .pre to-after) (sem 𝓤 H A Own))
@@ -176,60 +186,96 @@ module _ {M : Type 1} (𝓤 : URA M) (H : Heap 𝓤) (A : Atoms 𝓤) (W : Given
 
   -- what lines owns is kept, and at's facts are made anew
   again : (n : ℕ) → n < 2 ^ 64 → ent 𝓤 (sem 𝓤 H A Own) (sem 𝓤 H A (B κ′ .own (h′ n) (T′.lowered (h′ n) ∷ [])))
-  again n ok = qed W (‵ Own ∷ []) ∵ owned ! usize (Is usize) (uint-makes 𝓤 H A W w64) n _ (refl, ok) $ move ! (1 ∷ 0 ∷ []) $ by ! (own-put 𝓤 H A W D L 1 vh n mach)
+  again n ok =
+      qed W (‵ Own ∷ []) ∵ owned ! usize (Is usize) (uint-makes 𝓤 H A W w64) n _ (refl, ok) $ move ! (1 ∷ 0 ∷ []) $ by ! (own-put 𝓤 H A W D L 1 vh n mach)
 
   exits : (n : ℕ) (r : Read) (u : Val) → n ≡ next-place → r ≡ found
-      → ent 𝓤 (⋆ 𝓤 H A (‵ (fobs γ (B κ′ .coded .code (h′ n))) ∷ ‵ (fbor κ (Body (mem (B κ′)) b o γ)) ∷ ‵ (flft κ q) ∷ ‵ (S.the-row .own r (u ∷ [])) ∷ (‵ (flft κ′ q′) ⊛ ‵ ftrue) ∷ [])) (Post u)
+      → ent 𝓤
+      (⋆ 𝓤 H A (‵ (fobs γ (B κ′ .coded .code (h′ n))) ∷ ‵ (fbor κ (Body (mem (B κ′)) b o γ)) ∷ ‵ (flft κ q)
+      ∷ ‵ (S.the-row .own r (u ∷ [])) ∷ (‵ (flft κ′ q′) ⊛ ‵ ftrue) ∷ []))
+      (Post u)
   exits n r u e f =
-      qed W (‵ (fobs γ (B κ′ .coded .code (h′ n))) ∷ ‵ (fbor κ (Body (mem (B κ′)) b o γ)) ∷ ‵ (flft κ q) ∷ ‵ (S.the-row .own r (u ∷ [])) ∷ (‵ (flft κ′ q′) ⊛ ‵ ftrue) ∷ []) ∵
-      suffices ! _ (ends-at 𝓤 H A next.ended stayed (next.clauses 𝓤 H A at-mem run) W (((κ, (κ′, tt)), (q, (q′, tt)), bounds, x, at), tt) u r (h′ n, tt) (tt, tt)) $ says ! (f, refl, e) $
+      qed W
+      (‵ (fobs γ (B κ′ .coded .code (h′ n))) ∷ ‵ (fbor κ (Body (mem (B κ′)) b o γ)) ∷ ‵ (flft κ q)
+      ∷ ‵ (S.the-row .own r (u ∷ [])) ∷ (‵ (flft κ′ q′) ⊛ ‵ ftrue) ∷ []) ∵
+      suffices ! _
+      (ends-at 𝓤 H A next.ended stayed (next.clauses 𝓤 H A at-mem run) W (((κ, (κ′, tt)), (q, (q′, tt)), bounds, x, at), tt) u r (h′ n, tt) (tt, tt)) $
+      says ! (f, refl, e) $
       move ! (2 ∷ 4 ∷ []) $ join ! $
       frame ! $ feqI ! (List Val) (vptr b o ∷ []) (vptr b o ∷ []) refl $ fjoin3 ! $ nothing ! $ move ! (1 ∷ 0 ∷ []) $ fjoin ! $ frame ! $ done !
 
-  module _ (C : Calls 𝓤 H) (Λ : Loops 𝓤 H) (fm : FmC 𝓤 H (W .laws) C) (known-after : Triple 𝓤 (C #reader·after-line) (After 𝓤 H A at-mem run)) (known-answer : Triple 𝓤 (C #reader·answer-at) (Answer 𝓤 H A at-mem run)) where
+  module _ (C : Calls 𝓤 H) (Λ : Loops 𝓤 H) (fm : FmC 𝓤 H (W .laws) C)
+      (known-after : Triple 𝓤 (C #reader·after-line) (After 𝓤 H A at-mem run))
+      (known-answer : Triple 𝓤 (C #reader·answer-at) (Answer 𝓤 H A at-mem run)) where
     walk : ent 𝓤 (onEntry 𝓤 H A next.signature (κ, (κ′, tt)) (q, (q′, tt)) x at) (WpFn 𝓤 H C Λ code.function (vptr b o ∷ []) Post)
     walk =
         qed W ((‵ (flft κ q) ⊛ ‵ (flft κ′ q′) ⊛ ‵ ftrue) ∷ ‵ (owns (MutRef (named 0) κ (B κ′) ∷ []) x at) ∷ []) ∵ enter ! C Λ code.function (vptr b o ∷ []) _ $
-        alloc1 ! (λ l₀. alloc1 ! (λ l₁. alloc1 ! (λ l₂. alloc1 ! (λ l₃. alloc1 ! (λ l₄. alloc1 ! (λ l₅. alloc0 ! $ params1 ! $ pass1 ! (init ! 8 refl (tt, tt)) $ pass0 ! $
+        alloc1 !
+        (λ l₀. alloc1 ! (λ l₁. alloc1 ! (λ l₂. alloc1 ! (λ l₃. alloc1 ! (λ l₄. alloc1 ! (λ l₅. alloc0 ! $ params1 ! $ pass1 ! (init ! 8 refl (tt, tt)) $ pass0 ! $
         move ! (13 ∷ []) $ fsplit ! $ fsplit3 ! $ drop ! $ move ! (15 ∷ []) $ split ! $ move ! (2 ∷ 3 ∷ 0 ∷ []) $
         opens ! tt (B κ′) {h = h} b o (λ vs. spelt ! (B κ′) (Is (B κ′)) (shows 𝓤 H A (B κ′)) (LL.vals D L) (LL.tells D L) fullShare h vs b o $
         use1 W (‵ (fat fullShare (T′.mir erased) b o mach)) (W .laws .raw-at fullShare (T′.mir erased) b o mach) $
         move ! (1 ∷ []) $ peeks ! (B κ′) (Is (B κ′)) (shows 𝓤 H A (B κ′)) h (mach ∷ []) (λ was. move ! (1 ∷ 0 ∷ []) $
         -- [the struct's cell; what the reader owns; the open borrow; obs; auth; 'a's token; nothing; _5; …; _4; …; _3; …; _2; …; _1; …; room for _0; …]
-        assigns ! (of-opd ! (load ! (from ! (hop ! (look ! 15 refl) (fld ! refl (stop !)))) (look-in ! 0 (sub ! 0 refl (whole !))))) (from ! (stop !)) (init ! 13 refl (tt, LL.lawful D L 𝓤 H A W .typed h _ was .0 .1 .0)) $
-        assigns ! (of-opd ! (load ! (from ! (hop ! (look ! 15 refl) (fld ! refl (stop !)))) (look-in ! 0 (sub ! 1 refl (whole !))))) (from ! (stop !)) (init ! 11 refl (tt, record { fits = was .1 .1 .1 .0 .1 })) $
+        assigns ! (of-opd ! (load ! (from ! (hop ! (look ! 15 refl) (fld ! refl (stop !)))) (look-in ! 0 (sub ! 0 refl (whole !)))))
+        (from ! (stop !)) (init ! 13 refl (tt, LL.lawful D L 𝓤 H A W .typed h _ was .0 .1 .0)) $
+        assigns ! (of-opd ! (load ! (from ! (hop ! (look ! 15 refl) (fld ! refl (stop !)))) (look-in ! 0 (sub ! 1 refl (whole !)))))
+        (from ! (stop !)) (init ! 11 refl (tt, record { fits = was .1 .1 .1 .0 .1 })) $
         move ! (5 ∷ 1 ∷ []) $ use2 W (raw (After 𝓤 H A at-mem run .pre to-after) ⊛ ‵ Own) (to-pre-after (was .1 .1 .1 .0 .1)) $ split ! $
-        calls-at ! fm (After 𝓤 H A at-mem run) known-after to-after (and-then ! (load ! (from ! (stop !)) (look ! 13 refl)) (and-then ! (load ! (from ! (stop !)) (look ! 11 refl)) (no-more !))) (λ u.
-        use1 W (later (some (λ (n : ℕ). ((‵ (flft κ′ q′) ⊛ ‵ ftrue) ⊛ ‵ (usize .own n (u ∷ []))) ⊛ raw (ensured 𝓤 H A after.ended (after.clauses 𝓤 H A at-mem run) (κ′, tt) (h .lines, (h .at, tt)) tt n)))) (id⊢ 𝓤 _) $ await ! tt $ pick ! (λ n.
+        calls-at ! fm (After 𝓤 H A at-mem run) known-after to-after
+        (and-then ! (load ! (from ! (stop !)) (look ! 13 refl)) (and-then ! (load ! (from ! (stop !)) (look ! 11 refl)) (no-more !))) (λ u.
+        use1 W
+        (later (some (λ (n : ℕ). ((‵ (flft κ′ q′) ⊛ ‵ ftrue) ⊛ ‵ (usize .own n (u ∷ [])))
+        ⊛ raw (ensured 𝓤 H A after.ended (after.clauses 𝓤 H A at-mem run) (κ′, tt) (h .lines, (h .at, tt)) tt n))))
+        (id⊢ 𝓤 _) $
+        await ! tt $ pick ! (λ n.
         split ! $ move ! (1 ∷ []) $ use1 W (raw (fact 𝓤 (n ≡ next-place))) (said-after n) $ heard ! (n ≡ next-place) (λ e. split ! $ move ! (1 ∷ []) $
         -- [the number; the token; what the struct owns; the struct's cell; the open borrow; obs; auth; nothing; _5; …]
         peeks ! usize (Is usize) (shows 𝓤 H A usize) n (u ∷ []) (λ num.
-        land ! (from ! (stop !)) (init ! 10 refl (uint-lawful 𝓤 H A W w64 .typed n _ num .0)) $ rewrite ! 10 (λ (w : Val). ‵ (fat fullShare (tyInt w64) l₄ 0 w)) (ap only (num .0)) refl $ drop ! $
+        land ! (from ! (stop !)) (init ! 10 refl (uint-lawful 𝓤 H A W w64 .typed n _ num .0)) $
+        rewrite ! 10 (λ (w : Val). ‵ (fat fullShare (tyInt w64) l₄ 0 w)) (ap only (num .0)) refl $ drop ! $
         use2 W (raw (Answer 𝓤 H A at-mem run .pre to-answer) ⊛ ‵ Own) (to-pre-answer (was .1 .1 .1 .0 .1)) $ split ! $
-        calls-at ! fm (Answer 𝓤 H A at-mem run) known-answer to-answer (and-then ! (load ! (from ! (stop !)) (look ! 13 refl)) (and-then ! (load ! (from ! (stop !)) (look ! 11 refl)) (no-more !))) (λ w.
-        use1 W (later (some (λ (r : Read). ((‵ (flft κ′ q′) ⊛ ‵ ftrue) ⊛ ‵ (S.the-row .own r (w ∷ []))) ⊛ raw (ensured 𝓤 H A answer.ended (answer.clauses 𝓤 H A at-mem run) (κ′, tt) (h .lines, (h .at, tt)) tt r)))) (id⊢ 𝓤 _) $ await ! tt $ pick ! (λ r.
+        calls-at ! fm (Answer 𝓤 H A at-mem run) known-answer to-answer
+        (and-then ! (load ! (from ! (stop !)) (look ! 13 refl)) (and-then ! (load ! (from ! (stop !)) (look ! 11 refl)) (no-more !))) (λ w.
+        use1 W
+        (later (some (λ (r : Read). ((‵ (flft κ′ q′) ⊛ ‵ ftrue) ⊛ ‵ (S.the-row .own r (w ∷ [])))
+        ⊛ raw (ensured 𝓤 H A answer.ended (answer.clauses 𝓤 H A at-mem run) (κ′, tt) (h .lines, (h .at, tt)) tt r))))
+        (id⊢ 𝓤 _) $
+        await ! tt $ pick ! (λ r.
         split ! $ move ! (1 ∷ []) $ use1 W (raw (fact 𝓤 (r ≡ found))) (said-answer r) $ heard ! (r ≡ found) (λ f. split ! $ move ! (1 ∷ []) $
-        -- [the answer; the token; what the struct owns; the struct's cell; the open borrow; obs; auth; nothing; _5; …; _4; …; _3; …; _2; …; _1; …; room for _0; …]
+        -- [the answer; the token; what the struct owns; the struct's cell; the open borrow; obs; auth; nothing; _5; …; _4; …; _3; …; _2; …; _1;
+        -- …; room for _0; …]
         peeks ! S.the-row (Is S.the-row) (shows 𝓤 H A S.the-row) r (w ∷ []) (λ is.
         land ! (from ! (stop !)) (init ! 8 refl (EL.lawful S.the-type S′.the-laws 𝓤 H A W tt .typed r _ is .0)) $
-        assigns ! (of-opd ! (load ! (from ! (stop !)) (look ! 10 refl))) (from ! (hop ! (look ! 16 refl) (fld ! refl (stop !)))) (store-in ! 3 (sub ! 1 refl (whole !)) (tt, record { fits = num .1 })) $
-        assigns ! (of-opd ! (load ! (from ! (stop !)) (look ! 8 refl))) (from ! (stop !)) (init ! 18 refl (EL.lawful S.the-type S′.the-laws 𝓤 H A W tt .typed r _ is .0)) $
-        move ! (2 ∷ []) $ use1 W (‵ (B κ′ .own (h′ n) (T′.lowered (h′ n) ∷ []))) (again n (num .1)) $ move ! (3 ∷ []) $ use1 W (‵ (cellAt fullShare (B κ′ .mir) (T′.lowered (h′ n) ∷ []) b o)) (W .laws .at-raw fullShare (T′.mir erased) b o (T′.lowered (h′ n))) $
+        assigns ! (of-opd ! (load ! (from ! (stop !)) (look ! 10 refl))) (from ! (hop ! (look ! 16 refl) (fld ! refl (stop !))))
+        (store-in ! 3 (sub ! 1 refl (whole !)) (tt, record { fits = num .1 })) $
+        assigns ! (of-opd ! (load ! (from ! (stop !)) (look ! 8 refl))) (from ! (stop !))
+        (init ! 18 refl (EL.lawful S.the-type S′.the-laws 𝓤 H A W tt .typed r _ is .0)) $
+        move ! (2 ∷ []) $ use1 W (‵ (B κ′ .own (h′ n) (T′.lowered (h′ n) ∷ []))) (again n (num .1)) $ move ! (3 ∷ []) $
+        use1 W (‵ (cellAt fullShare (B κ′ .mir) (T′.lowered (h′ n) ∷ []) b o)) (W .laws .at-raw fullShare (T′.mir erased) b o (T′.lowered (h′ n))) $
         move ! (0 ∷ 1 ∷ 4 ∷ 5 ∷ 6 ∷ []) $ closes ! tt (B κ′) (h′ n) (T′.lowered (h′ n) ∷ []) b o $
         returns ! (look ! 16 refl) $ forget ! 6 refl $ forget ! 8 refl $ forget ! 10 refl $ forget ! 12 refl $ forget ! 14 refl $ forget ! 16 refl $
-        move ! (16 ∷ 17 ∷ []) $ free1 ! $ move ! (14 ∷ 15 ∷ []) $ free1 ! $ move ! (12 ∷ 13 ∷ []) $ free1 ! $ move ! (10 ∷ 11 ∷ []) $ free1 ! $ move ! (8 ∷ 9 ∷ []) $ free1 ! $ move ! (6 ∷ 7 ∷ []) $ free1 ! $ free0 ! $
+        move ! (16 ∷ 17 ∷ []) $ free1 ! $ move ! (14 ∷ 15 ∷ []) $ free1 ! $ move ! (12 ∷ 13 ∷ []) $ free1 ! $ move ! (10 ∷ 11 ∷ []) $
+        free1 ! $ move ! (8 ∷ 9 ∷ []) $ free1 ! $ move ! (6 ∷ 7 ∷ []) $ free1 ! $ free0 ! $
         keep ! (0 ∷ 1 ∷ 2 ∷ 3 ∷ 4 ∷ []) $ by ! (exits n r w e f)))))))))))))))))
 
 module _ {M : Type 1} (𝓤 : URA M) (H : Heap 𝓤) (A : Atoms 𝓤) (W : Given 𝓤 H A) (mem : Memory → SProp 𝓤) (run : Routine → Fun 𝓤) where
-  next-walks : (C : Calls 𝓤 H) (Λ : Loops 𝓤 H) → FmC 𝓤 H (W .laws) C → Triple 𝓤 (C #reader·after-line) (After 𝓤 H A mem run) → Triple 𝓤 (C #reader·answer-at) (Answer 𝓤 H A mem run)
+  next-walks : (C : Calls 𝓤 H) (Λ : Loops 𝓤 H) → FmC 𝓤 H (W .laws) C → Triple 𝓤 (C #reader·after-line) (After 𝓤 H A mem run)
+      → Triple 𝓤 (C #reader·answer-at) (Answer 𝓤 H A mem run)
       → Walks 𝓤 H A next.ended stayed (WpFn 𝓤 H C Λ code.function) (next.clauses 𝓤 H A mem run)
-  next-walks C Λ fm known-after known-answer = walked 𝓤 H A next.ended stayed (next.clauses 𝓤 H A mem run) (WpFn 𝓤 H C Λ code.function) (λ κs. (ptr-vals, tt)) (λ κs. (mut-tells (named 0) (κs .0) (B (κs .1 .0)), tt))
-      (λ κs qs bounds a g are. via 𝓤 _ (fst∗ 𝓤 _ (emp 𝓤)) (walk 𝓤 H A W mem run (κs .0) (κs .1 .0) (qs .0) (qs .1 .0) bounds (a .0 .ptr .0) (a .0 .ptr .1) (a .0 .name) (a .0 .now) C Λ fm known-after known-answer))
+  next-walks C Λ fm known-after known-answer =
+      walked 𝓤 H A next.ended stayed (next.clauses 𝓤 H A mem run) (WpFn 𝓤 H C Λ code.function) (λ κs. (ptr-vals, tt))
+      (λ κs. (mut-tells (named 0) (κs .0) (B (κs .1 .0)), tt))
+      (λ κs qs bounds a g are. via 𝓤 _ (fst∗ 𝓤 _ (emp 𝓤))
+      (walk 𝓤 H A W mem run (κs .0) (κs .1 .0) (qs .0) (qs .1 .0) bounds (a .0 .ptr .0) (a .0 .ptr .1) (a .0 .name)
+      (a .0 .now) C Λ fm known-after known-answer))
 
 next-meets : {M : Type 1} (𝓤 : URA M) (H : Heap 𝓤) (A : Atoms 𝓤) (W : Given 𝓤 H A) (mem : Memory → SProp 𝓤) (run : Routine → Fun 𝓤) (𝓣 : Tables 𝓤 H)
     → Triple 𝓤 (𝓣 .C #reader·after-line) (After 𝓤 H A mem run) → Triple 𝓤 (𝓣 .C #reader·answer-at) (Answer 𝓤 H A mem run)
     → Meets 𝓤 H A next.signature (WpFn 𝓤 H (𝓣 .C) (𝓣 .Λ) code.function) (next.spec 𝓤 H A mem run)
-next-meets 𝓤 H A W mem run 𝓣 known-after known-answer = walk-meets 𝓤 H A next.ended stayed W (goes-ref 𝓤 H A W 2 0 tt behind, tt) (next.clauses 𝓤 H A mem run) (WpFn 𝓤 H (𝓣 .C) (𝓣 .Λ) code.function) (WpFn-mono 𝓤 H (W .laws) 𝓣 code.function)
+next-meets 𝓤 H A W mem run 𝓣 known-after known-answer =
+    walk-meets 𝓤 H A next.ended stayed W (goes-ref 𝓤 H A W 2 0 tt behind, tt) (next.clauses 𝓤 H A mem run)
+    (WpFn 𝓤 H (𝓣 .C) (𝓣 .Λ) code.function) (WpFn-mono 𝓤 H (W .laws) 𝓣 code.function)
     (next-walks 𝓤 H A W mem run (𝓣 .C) (𝓣 .Λ) (fmOf 𝓤 H (W .laws) 𝓣) known-after known-answer)
 
 pub next-answer-spec : {M : Type 1} → stated.statement M

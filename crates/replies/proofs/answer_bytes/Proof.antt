@@ -1,8 +1,6 @@
 -- `replies::answer_bytes` meets its contract: a last byte of zero adds nothing to the sum, and the one that takes its place brings it to zero.
 -- Assumes nothing.
-use Prim.Native.Nat.{ℕ, _-_, _%_}
-use mathlib.Core.Path.{_≡_, ap, _∙_}
-use mathlib.Core.List.{[], _∷_, _++_}
+use mathlib.Core.Path.{_≡_, _∙_}
 use Rattle.hex.specs.Hex.{sum8, checkByte}
 use Rattle.hex.proofs.HexLaws.{sum8-zero}
 use Rattle.line.specs.Answers.{replyBytes}
@@ -38,8 +36,8 @@ returns : tie.Need-returns
 returns c =
     let bytes = replyBytes (c .before .before .before .args .reply) in
     let sum : c .before .sum8 .result ≡ sum8 bytes = c .before .sum8 .ensures ∙ sum8-zero bytes in
-    let check : c .check-byte .result ≡ checkByte bytes = c .check-byte .ensures ∙ ap (λ (n : ℕ). (256 - n) % 256) sum in
-    ap (λ (b : ℕ). bytes ++ (b ∷ [])) check
+    let check : c .check-byte .result ≡ checkByte bytes = rw sum at (c .check-byte .ensures) in
+    rw check
 
 pub answer-bytes-spec : {M : Type 1} → statement M
 answer-bytes-spec =

@@ -84,7 +84,7 @@ returns c =
     let none : drop 8 bytes ≡ [] = drop-of-length-le bytes {i = 8} (let n = ap length e in omega arith) in
     let all : take 16 (l .line) ≡ digitsOf bytes =
     sym (append-nil (take 16 (l .line)))
-    ∙ sym (ap (λ (t : List ℕ). take 16 (l .line) ++ digitsOf t) none)
+    ∙ sym (rw none)
     ∙ rw i at (l .inv .3) in
     sym (take-append-drop 16 (l .line))
     ∙ ap (λ (t : List ℕ). t ++ drop 16 (l .line)) (all ∙ ap digitsOf e)

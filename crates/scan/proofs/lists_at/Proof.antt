@@ -25,7 +25,9 @@ tested c =
     let s = read .before .before .before in
     let at = s .args .at in
     let limit = summed .before .pair-at .ensures in
-    let twelve = summed-pair (at + 22) (summed .plus .result) refl (read .fields-at .ensures .summed) (summed .plus .ensures ∙ ap (λ (p : Pair). (read .fields-at .result .sum + p .byte) % 256) limit) in
+    let twelve =
+    summed-pair (at + 22) (summed .plus .result) refl (read .fields-at .ensures .summed)
+    (summed .plus .ensures ∙ ap (λ (p : Pair). (read .fields-at .result .sum + p .byte) % 256) limit) in
     c .check-at .ensures at 12 refl (rw limit twelve)
 
 returns : tie.Need-returns
@@ -63,7 +65,8 @@ returns-2 c =
     let at = s .args .at in
     let f = read .fields-at .ensures in
     let limit = summed .before .pair-at .ensures in
-    sym (lists-at cs at (s .pre .1) ∙ rw (sym (tested (c .before)) ∙ c .if2 .taken, ← f .lead, ← f .poc, ← f .layer, ← f .span, ← ap (λ (p : Pair). p .byte) limit))
+    sym
+    (lists-at cs at (s .pre .1) ∙ rw (sym (tested (c .before)) ∙ c .if2 .taken, ← f .lead, ← f .poc, ← f .layer, ← f .span, ← ap (λ (p : Pair). p .byte) limit))
 
 returns-3 : tie.Need-returns-3
 returns-3 c =

@@ -20,7 +20,8 @@ tested : (c : tie.After-struct-known) →
     let f = c .before .before in
     let s = f .before .before .before in
     let cs = s .args .buffer .now in
-    (c .before .check-at .result && not (ltb 15 (f .fields-at .result .lead))) ≡ (isLineAt cs (s .args .at) 12 && not (badFlags (byteAt (pairsAt cs (s .args .at) 11) 1)))
+    (c .before .check-at .result && not (ltb 15 (f .fields-at .result .lead))) ≡
+    (isLineAt cs (s .args .at) 12 && not (badFlags (byteAt (pairsAt cs (s .args .at) 11) 1)))
 tested c =
     let f = c .before .before in
     let s = f .before .before .before in

@@ -121,7 +121,9 @@ returns-9 : tie.Need-returns-9
 returns-9 c =
     let s = start (c .before) in
     let r = c .match .rest in
-    sym (no-open (s .args .buffer .now) (s .args .at) (λ k p q l e f. none k p q f (r .0 .0 .0 .0 .0 .1) (r .0 .0 .0 .0 .1) (r .0 .0 .0 .1) (r .0 .0 .1) (r .0 .1) (r .1)))
+    sym
+    (no-open (s .args .buffer .now) (s .args .at)
+    (λ k p q l e f. none k p q f (r .0 .0 .0 .0 .0 .1) (r .0 .0 .0 .0 .1) (r .0 .0 .0 .1) (r .0 .0 .1) (r .0 .1) (r .1)))
 
 pub read-line-at-spec : {M : Type 1} → statement M
 read-line-at-spec =

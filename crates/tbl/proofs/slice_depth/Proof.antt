@@ -37,7 +37,10 @@ sub-if2 c = let g = size c in omega arith
 
 returns-2 : tie.Need-returns-2
 unfolding sliceDepth
-returns-2 c = let g = size (c .before) in no-position (isGopSize (c .before .before .before .args .gop-size)) _ _ (le-ltb (c .before .before .before .args .position + 1) (c .before .before .before .args .gop-size) (omega arith))
+returns-2 c =
+    let g = size (c .before) in
+    no-position (isGopSize (c .before .before .before .args .gop-size)) _ _
+    (le-ltb (c .before .before .before .args .position + 1) (c .before .before .before .args .gop-size) (omega arith))
 
 mul-at : tie.Need-mul-at
 mul-at c = let g = size (c .before) in omega arith

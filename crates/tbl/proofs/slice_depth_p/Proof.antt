@@ -34,7 +34,9 @@ returns c = no-length _ _ _ (sym (c .before .is-gop-size .ensures) ∙ not-true 
 
 returns-2 : tie.Need-returns-2
 unfolding sliceDepthP
-returns-2 c = no-position (isGopSize (c .before .before .before .args .gop-size)) _ _ (le-ltb (c .before .before .before .args .position) (c .before .before .before .args .gop-size) (omega arith))
+returns-2 c =
+    no-position (isGopSize (c .before .before .before .args .gop-size)) _ _
+    (le-ltb (c .before .before .before .args .position) (c .before .before .before .args .gop-size) (omega arith))
 
 mul-at : tie.Need-mul-at
 mul-at c = let g = size (c .before) in omega arith

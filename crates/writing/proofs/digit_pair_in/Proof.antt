@@ -1,9 +1,7 @@
 -- `writing::digit_pair_in` meets its contract. Assumes nothing.
-use Prim.Native.Nat.{ℕ, _+_, _-_}
+use Prim.Native.Nat.{_+_, _-_}
 use native.Mathlib.Omega.{arith}
-use mathlib.Core.Path.{_≡_, ap, _∙_}
-use mathlib.Core.List.{List}
-use lib.ListN.{getD}
+use mathlib.Core.Path.{_≡_, _∙_}
 use borrow.Author.Tests.{le-ltb}
 use Rattle.seq.proofs.Rows.{entry}
 use Rattle.hex.specs.Hex.{tableEntry, digitPair, digitTables}
@@ -26,7 +24,7 @@ returns c =
     let n = c .before .args .b in
     let less : 256 + n - 256 ≡ n = omega arith in
     let rule : tableEntry (256 + n) ≡ digitPair n = rw (le-ltb (256 + n) 256 (omega arith), less) in
-    ap (λ (t : List ℕ). getD t (256 + n) 0) (c .before .pre) ∙ entry tableEntry 0 512 (256 + n) (omega arith) ∙ rule
+    rw (c .before .pre) (entry tableEntry 0 512 (256 + n) (omega arith) ∙ rule)
 
 pub digit-pair-in-spec : {M : Type 1} → statement M
 digit-pair-in-spec = tie.close (tie.spec add-result mul-result element-copy-out-result returns)

@@ -54,7 +54,7 @@ returns c =
     let h = digit-fits (n / 16) (omega arith) in
     stored-then
     (stored-one (digitOf (n / 16)) (ap (λ (p : ℕ). p % 256) e ∙ low-half (digitOf (n / 16)) (digitOf (n % 16)) h))
-    (stored-one (digitOf (n % 16)) (ap (λ (p : ℕ). p / 256) e ∙ high-half (digitOf (n / 16)) (digitOf (n % 16)) h))
+    (stored-one (digitOf (n % 16)) (rw e (high-half (digitOf (n / 16)) (digitOf (n % 16)) h)))
 
 pub write-byte-spec : {M : Type 1} → statement M
 write-byte-spec =

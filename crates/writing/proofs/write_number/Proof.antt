@@ -66,7 +66,8 @@ returns c =
     let second = third .before .before .before .before in
     let first = second .before .before .before .before in
     let n = first .before .before .before .args .n in (
-      stored-then (stored-then (stored-then (first .write-byte .ensures) (second .write-byte2 .ensures)) (third .write-byte3 .ensures)) (fourth .write-byte4 .ensures),
+      stored-then (stored-then (stored-then (first .write-byte .ensures) (second .write-byte2 .ensures)) (third .write-byte3 .ensures))
+          (fourth .write-byte4 .ensures),
       rw (c .wrapping-add-u83 .ensures, c .before .wrapping-add-u82 .ensures, c .before .before .wrapping-add-u8 .ensures, last-byte (n / 256 % 256) (n % 256)),
     )
 
