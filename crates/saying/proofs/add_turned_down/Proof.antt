@@ -32,14 +32,12 @@ returns c =
     let fourth = c .before .before in
     let third = fourth .before .before .before .before in
     let second = third .before .before .before .before .before in
-    let first = second .before .before .before .before in (
-      added-then (first .add .ensures) (added-then (second .add-number .ensures .0) (added-then (third .add2 .ensures) (fourth .add-word .ensures .0))),
-      let fi = first .add .ensures in
-          let se = second .add-number .ensures in
-          let th = third .add2 .ensures in
-          let fo = fourth .add-word .ensures in
-          omega arith,
-    )
+    let first = second .before .before .before .before in
+    let fi = first .add .ensures in
+    let se = second .add-number .ensures in
+    let th = third .add2 .ensures in
+    let fo = fourth .add-word .ensures in
+    (added-then fi (added-then (se .0) (added-then th (fo .0))), omega arith)
 
 pub add-turned-down-spec : {M : Type 1} → statement M
 add-turned-down-spec =

@@ -30,10 +30,11 @@ unfolding badLineWords
 returns c =
     let third = c .before .before in
     let second = third .before .before .before .before .before in
-    let first = second .before .before .before .before in (
-      added-then (first .add .ensures) (added-then (second .add-number .ensures .0) (third .add2 .ensures)),
-      let fi = first .add .ensures in let se = second .add-number .ensures in let th = third .add2 .ensures in omega arith,
-    )
+    let first = second .before .before .before .before in
+    let fi = first .add .ensures in
+    let se = second .add-number .ensures in
+    let th = third .add2 .ensures in
+    (added-then fi (added-then (se .0) th), omega arith)
 
 pub say-bad-spec : {M : Type 1} → statement M
 say-bad-spec =
