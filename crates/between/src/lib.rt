@@ -7,7 +7,7 @@ use def::SliceType;
 use deriving::poc_derivation;
 use gop::Planning;
 use gop::planned;
-use gop::refused;
+use gop::refused_plan;
 use poc::PocAnswer;
 use tbl::SliceDepth;
 use tbl::slice_depth;
@@ -56,7 +56,7 @@ fn derived_plan(
 {
     match answer {
         PocAnswer::Derived(number) => planned(inter, slice_depth, number, slice_ref_flag, poc),
-        PocAnswer::Refused(why) => refused(why, poc),
+        PocAnswer::Refused(why) => refused_plan(why, poc),
     }
 }
 

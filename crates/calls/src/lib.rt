@@ -7,6 +7,11 @@ use deriving::poc_derivation;
 use keys::Called;
 use keys::PLACES;
 use keys::SLOTS;
+use line::GET_EMPTY_PIC;
+use line::INIT;
+use line::OUT_PIC;
+use line::PUT_PIC;
+use line::REFP_INIT;
 use line::reply_of;
 use machine::Made;
 use machine::Scalars;
@@ -19,19 +24,6 @@ ghost use Rattle.picman.specs.Out.{out};
 ghost use Rattle.refp.specs.Lists.{lists};
 ghost use Rattle.machine.specs.Step.{onState, onLists};
 ghost use Rattle.machine.specs.Running.{machineIn, Runs, Makes, madeOf, derivedOf};
-
-// The call bytes of answers.
-pub const INIT: u8 = 1;
-
-pub const GET_EMPTY_PIC: u8 = 2;
-
-pub const PUT_PIC: u8 = 3;
-
-pub const OUT_PIC: u8 = 4;
-
-pub const REFP_INIT: u8 = 5;
-
-pub const POC_DERIVATION: u8 = 6;
 
 // What a call on state and lists comes to; the record stays.
 pub fn made(call: u8, called: Called, poc: EvcPoc) -> Made

@@ -1,15 +1,15 @@
 // A call on the running machine with any bits in it: one that reads the state tests first whether it is whole.
-use calls::GET_EMPTY_PIC;
-use calls::INIT;
-use calls::OUT_PIC;
-use calls::POC_DERIVATION;
-use calls::PUT_PIC;
-use calls::REFP_INIT;
 use calls::made;
 use def::Answer;
 use def::Refusal;
 use keys::Called;
 use line::Call;
+use line::GET_EMPTY_PIC;
+use line::INIT;
+use line::OUT_PIC;
+use line::POC_DERIVATION;
+use line::PUT_PIC;
+use line::REFP_INIT;
 use machine::Made;
 use machine::Scalars;
 use making::make_call;

@@ -1,6 +1,11 @@
 // What a line of commands says whose words came to a draft: nothing, a call, or what was expected. Crate `commands` calls `finish`.
 use drafts::Draft;
 use line::Call;
+use line::GET_EMPTY_PIC;
+use line::INIT;
+use line::OUT_PIC;
+use line::PUT_PIC;
+use line::REFP_INIT;
 use progress::is_complete;
 ghost use mathlib.Core.Path.{_≡_};
 ghost use Rattle.line.specs.Claims.{CallFits};
@@ -18,16 +23,16 @@ fn call_of(d: Draft) -> Call
     ensures is { λ r. ⌜ r ≡ callOf d ⌝ }
     ensures fits { λ r. ⌜ CallFits r ⌝ }
 {
-    if d.call == 1 {
+    if d.call == INIT {
         return Call::Init {
             max_pb_size: d.lead,
             max_num_ref_pics: d.layer,
         };
     }
-    if d.call == 2 {
+    if d.call == GET_EMPTY_PIC {
         return Call::GetEmptyPic;
     }
-    if d.call == 3 {
+    if d.call == PUT_PIC {
         return Call::PutPic {
             flags: d.given % 16,
             poc: d.number,
@@ -35,10 +40,10 @@ fn call_of(d: Draft) -> Call
             ref_pic_gap_length: d.span,
         };
     }
-    if d.call == 4 {
+    if d.call == OUT_PIC {
         return Call::OutPic;
     }
-    if d.call == 5 {
+    if d.call == REFP_INIT {
         return Call::RefpInit {
             slice_type: d.lead,
             poc: d.number,

@@ -13,7 +13,7 @@ use def::SliceType;
 use def::slice_type_of;
 use gop::Planning;
 use gop::planned;
-use gop::refused;
+use gop::refused_plan;
 use tbl::is_gop_size;
 ghost use mathlib.Core.Path.{_≡_};
 ghost use mathlib.Core.Bool.{true, false};
@@ -103,12 +103,12 @@ pub fn decide_normal_gop(
     ensures { λ r. ⌜ r ≡ plan «pic_imcnt» «gop_size» «i_period» «inter_slice_type» hierarchy poc ⌝ }
 {
     if !is_gop_size(gop_size) {
-        return refused(Refusal::BadLength, poc);
+        return refused_plan(Refusal::BadLength, poc);
     }
     let inter = slice_type_of(inter_slice_type);
     let key = is_key(pic_imcnt, i_period);
     if is_bad_plan(pic_imcnt, gop_size, key, inter, hierarchy) {
-        return refused(Refusal::BadPlan, poc);
+        return refused_plan(Refusal::BadPlan, poc);
     }
     decided(pic_imcnt, gop_size, key, inter, hierarchy, poc)
 }

@@ -84,7 +84,10 @@ pub enum Refusal {
     NoRoom,
 }
 
-const HIGHEST_REFUSAL: u8 = 20;
+// The status of a call that was done.
+pub const DONE: u8 = 0;
+
+pub const HIGHEST_REFUSAL: u8 = 20;
 // Numbers below it that are withdrawn: an old reference was met, and the backward list is empty.
 const OLD_REFERENCE: u8 = 10;
 

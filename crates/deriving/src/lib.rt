@@ -2,9 +2,9 @@
 use def::EvcPoc;
 use def::MAX_POC;
 use def::Refusal;
+use numbering::derivation_refused;
 use numbering::key_picture;
 use numbering::other_picture;
-use numbering::refused;
 use poc::Derivation;
 ghost use mathlib.Core.Path.{_≡_};
 ghost use Rattle.poc.specs.PictureNumber.{derive, badRecord};
@@ -28,10 +28,10 @@ pub fn poc_derivation(log2_sub_gop_length: u8, tid: u8, poc: EvcPoc) -> Derivati
     ensures { λ r. ⌜ r ≡ derive «log2_sub_gop_length» tid poc ⌝ }
 {
     if (MAX_LOG2_SUB_GOP_LENGTH < log2_sub_gop_length) | (log2_sub_gop_length < tid) {
-        return refused(Refusal::BadLayer, poc);
+        return derivation_refused(Refusal::BadLayer, poc);
     }
     if is_bad_record(poc) {
-        return refused(Refusal::BadRecord, poc);
+        return derivation_refused(Refusal::BadRecord, poc);
     }
     if tid == 0 {
         return key_picture(log2_sub_gop_length, poc);

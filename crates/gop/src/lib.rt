@@ -27,7 +27,7 @@ pub struct Planning {
 }
 
 // A call turned down leaves the record as it was.
-pub fn refused(why: Refusal, poc: EvcPoc) -> Planning
+pub fn refused_plan(why: Refusal, poc: EvcPoc) -> Planning
     ensures { λ r. ⌜ r ≡ refusedPlan why poc ⌝ }
 {
     Planning {

@@ -2,6 +2,7 @@
 // a flag byte that does not fit gives 18, and nothing is written. In the contracts `given` says, byte for byte, what is given and what the lent
 // buffers hold then; `holds` says that the bytes are an image again, from which the next call reads the machine that this one left; `kept` says
 // that a call that is turned down, with a refusal's number, leaves the image as it was.
+use def::DONE;
 use exchange::read_machine;
 use exchange::write_machine;
 use image::is_image;
@@ -23,8 +24,6 @@ ghost use Rattle.machine.specs.Step.{step};
 ghost use Rattle.exchange.specs.Lent.{badLine, machineOf, ImageHolds};
 ghost use Rattle.wire.specs.Wire.{answerLength, answerBytes};
 ghost use Rattle.images.specs.Called.{answered, replied, Renews, Answers};
-
-const DONE: u8 = 0;
 
 // Writes the new machine, whatever the image held: 0.
 pub fn renew_image(image: &mut [u8]) -> u8

@@ -1,8 +1,10 @@
 // Answer lines read and call lines written on bytes that the caller lends, for the library's `picman_read_answer` and `picman_write_call`, so
 // that a display needs no parser of its own. Where the record's size does not fit it gives 18 and writes nothing.
 use buffer::paste;
+use def::DONE;
 use def::Refusal;
 use def::refusal_number;
+use line::NO_MORE;
 use line::Reply;
 use reader::Read;
 use reader::after_line;
@@ -12,10 +14,6 @@ use writer::write_fields;
 ghost use mathlib.Core.Path.{_≡_};
 ghost use Rattle.lent_lines.specs.LentLines.{lentOut, noReply, placeRecord, recordOf, readStatus, readOut};
 ghost use Rattle.lent_lines.specs.LentLines.{writtenStatus, wroteOut};
-
-const DONE: u8 = 0;
-
-const NO_MORE: u8 = 0x41;
 
 const RECORD_LENGTH: usize = 15;
 

@@ -11,9 +11,22 @@ pub const NO_BUFFER: u8 = 0xff;
 pub const BAD_LINE: u8 = 18;
 
 // What a status is where a call was done and hands over no picture.
-const NOT_YET: u8 = 0x40;
+pub const NOT_YET: u8 = 0x40;
 
-const NO_MORE: u8 = 0x41;
+pub const NO_MORE: u8 = 0x41;
+
+// The call bytes, of call lines and of answers.
+pub const INIT: u8 = 1;
+
+pub const GET_EMPTY_PIC: u8 = 2;
+
+pub const PUT_PIC: u8 = 3;
+
+pub const OUT_PIC: u8 = 4;
+
+pub const REFP_INIT: u8 = 5;
+
+pub const POC_DERIVATION: u8 = 6;
 
 // A call as its line has it. Fields keep their bytes: what a flag or a slice type means is decided at the call.
 pub enum Call {

@@ -6,14 +6,12 @@ use def::slice_type_of;
 use def::word::signed_of;
 use def::word::twos_complement;
 use line::NO_BUFFER;
+use line::POC_DERIVATION;
 use line::Reply;
 use poc::PocAnswer;
 ghost use mathlib.Core.Path.{_≡_};
 ghost use Prim.Native.Nat.{_<_};
 ghost use Rattle.machine.specs.Step.{flag, putCallOf, refpCallOf, derivedReply};
-
-// The call byte of a derivation.
-const POC_DERIVATION: u8 = 6;
 
 // Whether flags have the bit of a weight.
 fn flag(flags: u8, weight: u8) -> bool

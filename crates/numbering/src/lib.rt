@@ -15,7 +15,7 @@ ghost use Rattle.poc.specs.Number.{derivedAs};
 ghost use Rattle.poc.specs.Domain.{Checked};
 
 // A call turned down leaves the record as it was.
-pub fn refused(why: Refusal, poc: EvcPoc) -> Derivation
+pub fn derivation_refused(why: Refusal, poc: EvcPoc) -> Derivation
     ensures { λ r. ⌜ r ≡ derivationRefused why poc ⌝ }
 {
     Derivation {
@@ -25,7 +25,7 @@ pub fn refused(why: Refusal, poc: EvcPoc) -> Derivation
 }
 
 // The number answered, with the record for the next call.
-fn accepted(poc_val: PocVal, prev_poc_val: u32, prev_doc_offset: DocOffset) -> Derivation
+fn derived_as(poc_val: PocVal, prev_poc_val: u32, prev_doc_offset: DocOffset) -> Derivation
     ensures { λ r. ⌜ r ≡ derivedAs «poc_val» «prev_poc_val» «prev_doc_offset» ⌝ }
 {
     Derivation {
@@ -45,10 +45,10 @@ pub fn key_picture(log2_sub_gop_length: u8, poc: EvcPoc) -> Derivation
 {
     let key = poc.prev_poc_val + (1u32 << log2_sub_gop_length);
     if MAX_POC < key {
-        return refused(Refusal::NumberTooHigh, poc);
+        return derivation_refused(Refusal::NumberTooHigh, poc);
     }
     let number = key as i32;
-    accepted(PocVal(number), key, DocOffset(0))
+    derived_as(PocVal(number), key, DocOffset(0))
 }
 
 // Another layer. A wrap of the first step moves previous on, a wrap in the search does not.
@@ -64,10 +64,10 @@ pub fn other_picture(log2_sub_gop_length: u8, tid: u8, poc: EvcPoc) -> Derivatio
         prev = prev + sub_gop_length;
     }
     if MAX_POC < prev {
-        return refused(Refusal::NumberTooHigh, poc);
+        return derivation_refused(Refusal::NumberTooHigh, poc);
     }
     let first = next as i32;
     let doc_offset = doc_offset_from(log2_sub_gop_length, tid, DocOffset(first));
     let number = prev as i32 + poc_offset(log2_sub_gop_length, tid, doc_offset);
-    accepted(PocVal(number), prev, doc_offset)
+    derived_as(PocVal(number), prev, doc_offset)
 }

@@ -2,7 +2,13 @@
 // read calls by this.
 use framing::read_framed;
 use line::Call;
+use line::GET_EMPTY_PIC;
+use line::INIT;
 use line::Line;
+use line::OUT_PIC;
+use line::POC_DERIVATION;
+use line::PUT_PIC;
+use line::REFP_INIT;
 use summing::is_checked;
 use unpacking::lists_in;
 use unpacking::put_in;
@@ -31,25 +37,25 @@ fn is_call(body: &[u8], call: u8, size: usize) -> bool
 pub fn call_in(body: &[u8]) -> Line
     ensures { λ r. ⌜ r ≡ lineFor (callIn (now (body .entry))) ⌝ }
 {
-    if is_call(body, 1, 3) {
+    if is_call(body, INIT, 3) {
         return Line::Good(Call::Init {
             max_pb_size: body[1],
             max_num_ref_pics: body[2],
         });
     }
-    if is_call(body, 2, 1) {
+    if is_call(body, GET_EMPTY_PIC, 1) {
         return Line::Good(Call::GetEmptyPic);
     }
-    if is_call(body, 3, 11) {
+    if is_call(body, PUT_PIC, 11) {
         return put_in(body);
     }
-    if is_call(body, 4, 1) {
+    if is_call(body, OUT_PIC, 1) {
         return Line::Good(Call::OutPic);
     }
-    if is_call(body, 5, 12) {
+    if is_call(body, REFP_INIT, 12) {
         return Line::Good(lists_in(body));
     }
-    if is_call(body, 6, 3) {
+    if is_call(body, POC_DERIVATION, 3) {
         return Line::Good(Call::PocDerivation {
             log2_sub_gop_length: body[1],
             tid: body[2],

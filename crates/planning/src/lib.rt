@@ -1,6 +1,7 @@
 // The group planner on a record of 12 bytes and a plan of 7 that the caller lends, for the library's `picman_plan`. Where a size or the byte
 // for the hierarchy does not fit it gives 18; that and every other refusal writes nothing.
 use deciding::decide_normal_gop;
+use def::DONE;
 use def::EvcPoc;
 use def::Refusal;
 use def::SliceType;
@@ -19,8 +20,6 @@ ghost use Rattle.planning.specs.Planned.{planLeft, sliceByte, planWidth,
 const RECORD_LENGTH: usize = 12;
 
 const PLAN_LENGTH: usize = 7;
-
-const DONE: u8 = 0;
 
 fn slice_byte(slice_type: SliceType) -> u8
     ensures { λ r. ⌜ r ≡ sliceByte «slice_type» ⌝ }

@@ -1,6 +1,7 @@
 // The question why a picture is or is not in the forward list, as bytes, for the library: the bytes of a list call's line, check byte too, and a
 // slot, of an image or of the running machine. State and lists are only read. Two lent bytes get the reason; where a size, a flag byte or the
 // call does not fit 18 is given, and that and every other refusal writes nothing.
+use def::DONE;
 use def::RefpCall;
 use def::refusal_number;
 use line::Call;
@@ -16,8 +17,6 @@ ghost use Rattle.reasons.specs.Reasons.{why};
 ghost use Rattle.questions.specs.Asked.{questionOf, questionIn, reasonNumber, placeTold, reasonLength, reasonBytes, whyLeft, shownWhy};
 
 pub const REASON_LENGTH: usize = 2;
-
-const DONE: u8 = 0;
 
 // What a call asks here: why, of a list request, or nothing.
 pub enum Question {

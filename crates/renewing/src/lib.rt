@@ -1,12 +1,11 @@
 // The new machine, which is all zero, written over whatever stood there.
+use def::DONE;
 use line::BAD_LINE;
 use sizing::is_sized;
 ghost use mathlib.Core.Path.{_≡_};
 ghost use lib.ListN.{length, replicate};
 ghost use Rattle.machine.specs.Lent.{slices};
 ghost use Rattle.renewing.specs.Renewed.{Renewed};
-
-const DONE: u8 = 0;
 
 fn clear_keys(keys: &mut [u64])
     ensures { λ _. ⌜ now (keys .exit) ≡ replicate (length (now (keys .entry))) 0 ⌝ }

@@ -1,6 +1,11 @@
 // Words for answers: an answer line as a person would put it, or that it is none.
 use answers::AnswerLine;
 use answers::read_answer;
+use line::NO_BUFFER;
+use line::NO_MORE;
+use line::NOT_YET;
+use line::POC_DERIVATION;
+use line::REFP_INIT;
 use line::Reply;
 use phrases::add;
 use phrases::add_entry;
@@ -22,16 +27,6 @@ const NAMES: [u8; 42] = *b"line  init  get   put   out   lists derive";
 const NAME_LENGTHS: [usize; 7] = [4, 4, 3, 3, 3, 5, 6];
 
 const CALLS: u8 = 7;
-
-const LISTS: u8 = 5;
-
-const DERIVE: u8 = 6;
-
-const NO_BUFFER: u8 = 0xff;
-
-const NOT_YET: u8 = 0x40;
-
-const NO_MORE: u8 = 0x41;
 
 fn add_known_name(out: &mut [u8], at: usize, call: u8) -> usize
     requires { ⌜ (at + 6 ≤ length (now out)) × (call < 7) ⌝ }
@@ -77,10 +72,10 @@ fn add_done(out: &mut [u8], at: usize, reply: Reply) -> usize
     if reply.buf != NO_BUFFER {
         return add_picture(out, at, reply.buf, reply.value);
     }
-    if reply.call == LISTS {
+    if reply.call == REFP_INIT {
         return add_counts(out, at, reply.value);
     }
-    if reply.call == DERIVE {
+    if reply.call == POC_DERIVATION {
         return add_signed(out, at, reply.value);
     }
     add(out, at, b"done")

@@ -1,5 +1,6 @@
 // The running machine in a caller's slices, loaded from an image and saved as one, with any bits in both. A size or a flag byte that does not fit gives
 // 18, a state that is not whole 7, since keys cannot say every such state; then nothing is written.
+use def::DONE;
 use exchange::read_machine;
 use exchange::write_machine;
 use image::is_image;
@@ -25,8 +26,6 @@ ghost use Rattle.machine.specs.Lent.{slices, sized};
 ghost use Rattle.transfer.specs.Exchanged.{Loads, Saves};
 
 const NOT_WHOLE: u8 = 7;
-
-const DONE: u8 = 0;
 
 // Whether a machine's state is whole, told from its keys.
 fn state_is_whole(m: Machine) -> bool

@@ -1,4 +1,5 @@
 // The word for the status of an answer, from one table of the refusals' words. Crate `saying` calls `add_word`.
+use def::HIGHEST_REFUSAL;
 use phrases::add_entry;
 ghost use mathlib.Core.Path.{_≡_};
 ghost use Prim.Native.Nat.{_+_, _≤_, _<_};
@@ -56,8 +57,6 @@ const WORD_LENGTHS: [usize; 21] = [
     8,
     7,
 ];
-
-const HIGHEST_REFUSAL: u8 = 20;
 
 fn word_place(status: u8) -> usize
     ensures { λ r. ⌜ (r ≡ wordPlace status) × (r < 21) ⌝ }

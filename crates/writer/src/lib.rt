@@ -2,7 +2,13 @@
 use def::Refusal;
 use framing::write_framed;
 use line::Call;
+use line::GET_EMPTY_PIC;
+use line::INIT;
 use line::Line;
+use line::OUT_PIC;
+use line::POC_DERIVATION;
+use line::PUT_PIC;
+use line::REFP_INIT;
 use parsing::call_in;
 ghost use mathlib.Core.Path.{_≡_};
 ghost use Rattle.line.specs.Calls.{callBytes};
@@ -82,15 +88,15 @@ fn body_of(call: Call) -> Body
         Call::Init {
             max_pb_size,
             max_num_ref_pics,
-        } => short_body(1, max_pb_size, max_num_ref_pics, 3),
-        Call::GetEmptyPic => short_body(2, 0, 0, 1),
+        } => short_body(INIT, max_pb_size, max_num_ref_pics, 3),
+        Call::GetEmptyPic => short_body(GET_EMPTY_PIC, 0, 0, 1),
         Call::PutPic {
             flags,
             poc,
             temporal_id,
             ref_pic_gap_length,
-        } => long_body(3, flags, poc, temporal_id, ref_pic_gap_length, 0, 11),
-        Call::OutPic => short_body(4, 0, 0, 1),
+        } => long_body(PUT_PIC, flags, poc, temporal_id, ref_pic_gap_length, 0, 11),
+        Call::OutPic => short_body(OUT_PIC, 0, 0, 1),
         Call::RefpInit {
             slice_type,
             poc,
@@ -98,7 +104,7 @@ fn body_of(call: Call) -> Body
             last_intra,
             max_num_ref_pics,
         } => long_body(
-            5,
+            REFP_INIT,
             slice_type,
             poc,
             layer_id,
@@ -109,7 +115,7 @@ fn body_of(call: Call) -> Body
         Call::PocDerivation {
             log2_sub_gop_length,
             tid,
-        } => short_body(6, log2_sub_gop_length, tid, 3),
+        } => short_body(POC_DERIVATION, log2_sub_gop_length, tid, 3),
     }
 }
 

@@ -13,8 +13,8 @@ planned-requires c κs = search needs
 enum-known-answer-2 : tie.Need-enum-known-answer-2
 enum-known-answer-2 c = search needs
 
-refused-requires : tie.Need-refused-requires
-refused-requires c κs = search needs
+refused-plan-requires : tie.Need-refused-plan-requires
+refused-plan-requires c κs = search needs
 
 returns : tie.Need-returns
 returns c =
@@ -27,10 +27,10 @@ returns-2 : tie.Need-returns-2
 returns-2 c =
     let known = c .before .before in
     let s = known .before .before in
-    c .refused .ensures
+    c .refused-plan .ensures
     ∙ sym (rw (known .answer2 .given .1))
 
 pub derived-plan-spec : {M : Type 1} → statement M
 derived-plan-spec =
     tie.close
-    (tie.spec enum-known-answer planned-requires enum-known-answer-2 refused-requires returns returns-2)
+    (tie.spec enum-known-answer planned-requires enum-known-answer-2 refused-plan-requires returns returns-2)

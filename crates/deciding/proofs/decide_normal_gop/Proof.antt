@@ -16,15 +16,15 @@ a-length c = sym (c .before .is-gop-size .ensures) ∙ not-false _ (c .if1 .left
 is-gop-size-requires : tie.Need-is-gop-size-requires
 is-gop-size-requires c κs = search needs
 
-refused-requires : tie.Need-refused-requires
-refused-requires c κs = search needs
+refused-plan-requires : tie.Need-refused-plan-requires
+refused-plan-requires c κs = search needs
 
 returns : tie.Need-returns
 unfolding plan
 returns c =
     let tested = c .before .before in
     let e : isGopSize (tested .before .args .gop-size) ≡ false = sym (tested .is-gop-size .ensures) ∙ not-true _ (c .before .if1 .taken) in
-    rw e (c .refused .ensures)
+    rw e (c .refused-plan .ensures)
 
 slice-type-of-requires : tie.Need-slice-type-of-requires
 slice-type-of-requires c κs = search needs
@@ -35,8 +35,8 @@ is-key-requires c κs = search needs
 is-bad-plan-requires : tie.Need-is-bad-plan-requires
 is-bad-plan-requires c κs = above-zero _ (a-length (c .before .before))
 
-refused-requires-2 : tie.Need-refused-requires-2
-refused-requires-2 c κs = search needs
+refused-plan-requires-2 : tie.Need-refused-plan-requires-2
+refused-plan-requires-2 c κs = search needs
 
 returns-2 : tie.Need-returns-2
 unfolding plan
@@ -45,7 +45,7 @@ returns-2 c =
     let key = tested .before in
     let slice = key .before in
     let bad = sym (tested .is-bad-plan .ensures) ∙ c .before .if2 .taken in
-    rw (a-length (slice .before), ← slice .slice-type-of .ensures, ← key .is-key .ensures, bad) (c .refused2 .ensures)
+    rw (a-length (slice .before), ← slice .slice-type-of .ensures, ← key .is-key .ensures, bad) (c .refused-plan2 .ensures)
 
 decided-requires : tie.Need-decided-requires
 decided-requires c κs =
@@ -66,12 +66,12 @@ decide-normal-gop-spec =
     tie.close
     (tie.spec
     is-gop-size-requires
-    refused-requires
+    refused-plan-requires
     returns
     slice-type-of-requires
     is-key-requires
     is-bad-plan-requires
-    refused-requires-2
+    refused-plan-requires-2
     returns-2
     decided-requires
     returns-3)

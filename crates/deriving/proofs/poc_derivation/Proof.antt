@@ -29,24 +29,24 @@ checked L t r e g =
     let o = an-offset (r .«prev_doc_offset» .0) (b .1) in
     record { short = ltb-false maxLog2 L (a .0); layer = ltb-false L t (a .1); previous = ltb-false maxPoc _ (b .0); is-offset = o .0; offset = o .1 }
 
-refused-requires : tie.Need-refused-requires
-refused-requires c κs = search needs
+derivation-refused-requires : tie.Need-derivation-refused-requires
+derivation-refused-requires c κs = search needs
 
 returns : tie.Need-returns
 unfolding derive
-returns c = rw (c .before .if1 .taken) (c .refused .ensures)
+returns c = rw (c .before .if1 .taken) (c .derivation-refused .ensures)
 
 is-bad-record-requires : tie.Need-is-bad-record-requires
 is-bad-record-requires c κs = search needs
 
-refused-requires-2 : tie.Need-refused-requires-2
-refused-requires-2 c κs = search needs
+derivation-refused-requires-2 : tie.Need-derivation-refused-requires-2
+derivation-refused-requires-2 c κs = search needs
 
 returns-2 : tie.Need-returns-2
 unfolding derive
 returns-2 c =
     let b = c .before .before in
-    rw (b .before .if1 .left, sym (b .is-bad-record .ensures) ∙ c .before .if2 .taken) (c .refused2 .ensures)
+    rw (b .before .if1 .left, sym (b .is-bad-record .ensures) ∙ c .before .if2 .taken) (c .derivation-refused2 .ensures)
 
 -- past both tests
 good-record : (c : tie.Else2) → badRecord (c .before .before .before .args .poc) ≡ false
@@ -78,10 +78,10 @@ pub poc-derivation-spec : {M : Type 1} → statement M
 poc-derivation-spec =
     tie.close
     (tie.spec
-    refused-requires
+    derivation-refused-requires
     returns
     is-bad-record-requires
-    refused-requires-2
+    derivation-refused-requires-2
     returns-2
     key-picture-requires
     returns-3

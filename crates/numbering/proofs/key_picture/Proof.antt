@@ -28,28 +28,28 @@ add-key c =
 abbrev new : tie.Start → ℕ
 new s = s .args .poc .«prev_poc_val» + 2 ^ s .args .log2-sub-gop-length
 
-refused-requires : tie.Need-refused-requires
-refused-requires c κs = search needs
+derivation-refused-requires : tie.Need-derivation-refused-requires
+derivation-refused-requires c κs = search needs
 
 returns : tie.Need-returns
 returns c =
     let s = c .before .before .before in
     let high : maxPoc < new s = rw (shifted _ (s .pre .short)) at (c .before .if1 .taken) in
-    c .refused .ensures ∙ sym (settled-high (s .args .poc) (pos (new s)) (new s) 0 high)
+    c .derivation-refused .ensures ∙ sym (settled-high (s .args .poc) (pos (new s)) (new s) 0 high)
 
 cast-number : tie.Need-cast-number
 cast-number c = search needs
 
-accepted-requires : tie.Need-accepted-requires
-accepted-requires c κs = search needs
+derived-as-requires : tie.Need-derived-as-requires
+derived-as-requires c κs = search needs
 
 returns-2 : tie.Need-returns-2
 returns-2 c =
     let s = c .before .before .before in
     let low : new s ≤ maxPoc = rw (shifted _ (s .pre .short)) at (c .before .if1 .left) in
-    (rw (shifted _ (s .pre .short), toZ-pos w32 (new s) (omega arith)) at (c .accepted .ensures))
+    (rw (shifted _ (s .pre .short), toZ-pos w32 (new s) (omega arith)) at (c .derived-as .ensures))
     ∙ sym (settled-fits (s .args .poc) (pos (new s)) (new s) 0 (le-ltb maxPoc (new s) low) low)
 
 pub key-picture-spec : {M : Type 1} → statement M
 key-picture-spec =
-    tie.close (tie.spec shl-key add-key refused-requires returns cast-number accepted-requires returns-2)
+    tie.close (tie.spec shl-key add-key derivation-refused-requires returns cast-number derived-as-requires returns-2)

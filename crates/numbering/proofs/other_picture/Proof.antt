@@ -107,8 +107,8 @@ previous-is c =
     (λ w. w .1 ∙ rw (ne-eqb _ 0 (λ e. w .0 .left (next-is h ∙ e))))
     (c .if1 .came)
 
-refused-requires : tie.Need-refused-requires
-refused-requires c κs = search needs
+derivation-refused-requires : tie.Need-derivation-refused-requires
+derivation-refused-requires c κs = search needs
 
 returns : tie.Need-returns
 returns c =
@@ -117,7 +117,7 @@ returns c =
     let t = s .args .tid in
     let r = s .args .poc in
     let high : maxPoc < nextPrevious L r = rw (previous-is (c .before .before)) at (c .before .if2 .taken) in
-    c .refused .ensures ∙ sym (settled-high r (number (nextPrevious L r) L t (found L t r)) (nextPrevious L r) (found L t r) high)
+    c .derivation-refused .ensures ∙ sym (settled-high r (number (nextPrevious L r) L t (found L t r)) (nextPrevious L r) (found L t r) high)
 
 cast-first : tie.Need-cast-first
 cast-first c = let h = start (c .before) .pre .1 in rw (next-is h) (record { sfits = next-small h })
@@ -170,8 +170,8 @@ sum c =
 add-number : tie.Need-add-number
 add-number c = let p = start (c .before .before .before) .pre in rw (sum c .is) (number-fits (p .1) (p .0) (sum c .fits))
 
-accepted-requires : tie.Need-accepted-requires
-accepted-requires c κs = search needs
+derived-as-requires : tie.Need-derived-as-requires
+derived-as-requires c κs = search needs
 
 returns-2 : tie.Need-returns-2
 returns-2 c =
@@ -181,7 +181,7 @@ returns-2 c =
     let t = s .args .tid in
     let fits = sum (c .before) .fits in
     let is-number = ap (λ (z : ℤ). toZ w32 (ofZ w32 z)) (sum (c .before) .is) ∙ toZ-ofZ w32 _ (number-fits (s .pre .1) (s .pre .0) fits) in
-    c .accepted .ensures
+    c .derived-as .ensures
     ∙ ap₂ (λ (z : ℤ) (prev : ℕ). derivedAs (record { 0 = z }) prev (c .before .before .doc-offset-from .result)) is-number
     (previous-is (c .before .before .before .before))
     ∙ ap (λ (w : ℤ). derivedAs (record { 0 = number (nextPrevious L r) L t (found L t r) }) (nextPrevious L r) (record { 0 = w }))
@@ -197,12 +197,12 @@ other-picture-spec =
     add-next
     rem-next
     add-prev
-    refused-requires
+    derivation-refused-requires
     returns
     cast-first
     doc-offset-from-requires
     cast-number
     poc-offset-requires
     add-number
-    accepted-requires
+    derived-as-requires
     returns-2)
