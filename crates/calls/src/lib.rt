@@ -84,12 +84,7 @@ pub fn put_call(keys: &mut [u64], rows: &mut [u32], s: Scalars, call: PutCall) -
 {
     let rest = s.rest;
     let poc = s.poc;
-    let mut next = [0u64; SLOTS];
-    made(
-        PUT_PIC,
-        putting::put(keys, rows, &mut next, rest, call),
-        poc,
-    )
+    made(PUT_PIC, putting::put(keys, rows, rest, call), poc)
 }
 
 pub fn out_call(keys: &mut [u64], rows: &[u32], s: Scalars) -> Made

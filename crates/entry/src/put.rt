@@ -23,7 +23,6 @@ pub fn evc_picman_put_pic(pm: EvcPm, refp: [EvcRefP; REFP_PLACES], call: PutCall
     if !state.is_whole {
         return not_whole(pm);
     }
-    let mut next = [0u64; SLOTS];
-    let called = putting::put(&mut keys, &mut rows, &mut next, state.rest, call);
+    let called = putting::put(&mut keys, &mut rows, state.rest, call);
     finished(&keys, &rows, called)
 }

@@ -1,5 +1,5 @@
-// Put: marking, then the leased picture goes into the store. Marking goes into `next`, so that a put that is turned down after it finds the keys
-// as they were.
+// Put: marking, then the leased picture goes into the store. Marking goes into keys of its own, so that a put that is turned down after it finds
+// the keys as they were; they are made only where the put marks, since filling them takes longer than the rest of a put that does not.
 ghost use mathlib.Core.Path.{_≡_};
 ghost use mathlib.Core.Bool.{true};
 ghost use mathlib.Core.List.{List};
@@ -16,6 +16,7 @@ use def::PutCall;
 use def::Refusal;
 use keys::Called;
 use keys::Rest;
+use keys::SLOTS;
 use keys::key::is_present;
 use limiting::pic_marking_no_rpl;
 use marking::picman_flush_pb;
@@ -44,8 +45,8 @@ fn remark(keys: &[u64], next: &mut [u64], call: PutCall) -> u8
 }
 
 // A put of no picture only marks, and the lease stays.
-fn put_nothing(keys: &mut [u64], next: &mut [u64], rest: Rest, call: PutCall) -> Called
-    requires { ⌜ (length (now keys) ≡ slots) × (length (now next) ≡ slots) ⌝ }
+fn put_nothing(keys: &mut [u64], rest: Rest, call: PutCall) -> Called
+    requires { ⌜ length (now keys) ≡ slots ⌝ }
     ensures { λ r. ⌜ ((rows : List ℕ) → length rows ≡ rowsLength
         → Comes r (now (keys .exit)) rows (listsIn rows) (onlyMarked call (stands (now (keys .entry)) rows rest))) ⌝ }
 {
@@ -55,9 +56,10 @@ fn put_nothing(keys: &mut [u64], next: &mut [u64], rest: Rest, call: PutCall) ->
             rest,
         };
     }
+    let mut next = [0u64; SLOTS];
     let mut marked = rest;
-    marked.cur_num_ref_pics = remark(keys, next, call);
-    copy_keys(next, keys);
+    marked.cur_num_ref_pics = remark(keys, &mut next, call);
+    copy_keys(&next, keys);
     Called {
         answer: Answer::Done,
         rest: marked,
@@ -65,23 +67,15 @@ fn put_nothing(keys: &mut [u64], next: &mut [u64], rest: Rest, call: PutCall) ->
 }
 
 // On a whole state.
-pub fn put(
-    keys: &mut [u64],
-    rows: &mut [u32],
-    next: &mut [u64],
-    rest: Rest,
-    call: PutCall,
-) -> Called
-    requires { ⌜ Sized (now keys) (now rows)
-        × (length (now next) ≡ slots)
-        × (whole (stands (now keys) (now rows) rest) ≡ true) ⌝ }
+pub fn put(keys: &mut [u64], rows: &mut [u32], rest: Rest, call: PutCall) -> Called
+    requires { ⌜ Sized (now keys) (now rows) × (whole (stands (now keys) (now rows) rest) ≡ true) ⌝ }
     ensures { λ r.
         let before = stands (now (keys .entry)) (now (rows .entry)) rest in
         let wanted = putWhole before (listsIn (now (rows .entry))) call in
         ⌜ Calls r (now (keys .entry)) (now (rows .entry)) rest (now (keys .exit)) (now (rows .exit)) wanted ⌝ }
 {
     if !call.has_pic {
-        return put_nothing(keys, next, rest, call);
+        return put_nothing(keys, rest, call);
     }
     if MAX_POC < call.poc {
         return refuse(rest, Refusal::NumberTooHigh);
@@ -92,6 +86,7 @@ pub fn put(
     if !marks_anew(call) {
         return place_unmarked(keys, rows, rest, call);
     }
-    let count = remark(keys, next, call);
-    place_marked(keys, rows, next, rest, count, call)
+    let mut next = [0u64; SLOTS];
+    let count = remark(keys, &mut next, call);
+    place_marked(keys, rows, &next, rest, count, call)
 }

@@ -66,14 +66,11 @@ slice-aggregate-put c = search needs
 slice-aggregate-put-2 : tie.Need-slice-aggregate-put-2
 slice-aggregate-put-2 c = search needs
 
-slice-aggregate-put-3 : tie.Need-slice-aggregate-put-3
-slice-aggregate-put-3 c = search needs
-
 put-requires : tie.Need-put-requires
 put-requires c κs =
-    let at-test = c .before .before .before in
+    let at-test = c .before .before in
     let o = opened (at-test .before .before .before .before) in
-    (o .sized, refl, opened-whole o (is-whole at-test))
+    (o .sized, opened-whole o (is-whole at-test))
 
 slice-aggregate-finished : tie.Need-slice-aggregate-finished
 slice-aggregate-finished c = search needs
@@ -83,8 +80,8 @@ slice-aggregate-finished-2 c = search needs
 
 finished-requires : tie.Need-finished-requires
 finished-requires c κs =
-    let at-call = c .before .before .before .before .before in
-    let at-test = at-call .before .before .before .before in
+    let at-call = c .before .before .before .before in
+    let at-test = at-call .before .before .before in
     let at-open = at-test .before .before .before .before in
     let o = opened at-open in
     let came = put-on-lists o (start at-open .args .call) (at-call .put .ensures .comes) in
@@ -93,8 +90,8 @@ finished-requires c κs =
 returns-2 : tie.Need-returns-2
 returns-2 c =
     let to-finish = c .before in
-    let at-call = to-finish .before .before .before .before .before in
-    let at-test = at-call .before .before .before .before in
+    let at-call = to-finish .before .before .before .before in
+    let at-test = at-call .before .before .before in
     let at-open = at-test .before .before .before .before in
     let o = opened at-open in
     let came = put-on-lists o (start at-open .args .call) (at-call .put .ensures .comes) in
@@ -113,7 +110,6 @@ evc-picman-put-pic-spec =
     returns
     slice-aggregate-put
     slice-aggregate-put-2
-    slice-aggregate-put-3
     put-requires
     slice-aggregate-finished
     slice-aggregate-finished-2
