@@ -12,7 +12,8 @@ fn wide(n: u32) -> u64
     n as u64
 }
 
-fn answer_word(reply: Reply) -> u64
+// A reply as one number.
+pub fn answer_word(reply: Reply) -> u64
     ensures { λ r. ⌜ r ≡ answerWord reply ⌝ }
 {
     wide(reply.value) * 0x1_0000_0000 + reply.buf as u64 * 256 + reply.status as u64

@@ -1,9 +1,10 @@
-// The calls on the running machine, one function for each, with plain numbers: any bits may stand in the slices.
+// The calls on the running machine, one function for each, with plain numbers: any bits may stand in the slices. The derivation stands in crate
+// `recording`.
 use answering::answer_on;
 use line::Call;
 use line::Line;
 ghost use mathlib.Core.Path.{_≡_};
-ghost use Rattle.line.specs.declared.Call.the-variants.{Init, GetEmptyPic, OutPic, RefpInit, PocDerivation};
+ghost use Rattle.line.specs.declared.Call.the-variants.{Init, GetEmptyPic, OutPic, RefpInit};
 ghost use Rattle.line.specs.declared.Line.the-variants.{Good};
 ghost use Rattle.running.specs.Slices.{slices};
 ghost use Rattle.answering.specs.Answered.{OnSlices};
@@ -111,26 +112,6 @@ pub fn lists_on(
         layer_id,
         last_intra,
         max_num_ref_pics,
-    };
-    answer_on(keys, rows, registers, Line::Good(call))
-}
-
-// Derives a picture number. It reads the record alone, and so works where the state is not whole too.
-pub fn derive_on(
-    keys: &mut [u64],
-    rows: &mut [u32],
-    registers: &mut [u32],
-    log2_sub_gop_length: u8,
-    tid: u8,
-) -> u64
-    ensures { λ r.
-        let before = slices (now (keys .entry)) (now (rows .entry)) (now (registers .entry)) in
-        let after = slices (now (keys .exit)) (now (rows .exit)) (now (registers .exit)) in
-        ⌜ OnSlices r (Good (PocDerivation «log2_sub_gop_length» tid)) before after ⌝ }
-{
-    let call = Call::PocDerivation {
-        log2_sub_gop_length,
-        tid,
     };
     answer_on(keys, rows, registers, Line::Good(call))
 }

@@ -1,12 +1,12 @@
 // The running machine for C: three slices that the caller owns, keys, rows and registers, on which calls work in place, with any bits in them.
-// One function for each call, with plain numbers, and one for the bytes of a call line; all are thin over crates `calling`, `renewing`, `one_entry` and `wire`.
-use calling::derive_on;
+// One function for each call, with plain numbers, and one for the bytes of a call line; all are thin over crates `calling`, `recording`, `renewing`, `one_entry` and `wire`.
 use calling::get_on;
 use calling::init_on;
 use calling::lists_on;
 use calling::out_on;
 use calling::put_on;
 use one_entry::place_entry;
+use recording::derive_on;
 use renewing::renew;
 use wire::call_bytes;
 ghost use Rattle.keys.specs.Keys.{listsIn};

@@ -2,17 +2,26 @@
 -- Assumes nothing.
 use Prim.Native.Nat.{ℕ, _+_, _*_, _/_, _%_, _^_, _<_, min}
 use mathlib.Core.List.{List}
-use mathlib.Core.Path.{_≡_, refl}
+use mathlib.Core.Path.{_≡_, refl, ap}
 use native.Mathlib.Omega.{arith}
-use mir.Val.{Val}
+use lib.IntN.{ℤ}
+use lib.Signed.{mag}
+use mir.Syntax.{w32}
+use mir.Val.{Val, toZ, ofZ}
+use mir.ValLaws.{toZ-ofZ}
 use denote.Laws.{Is}
 use denote.Struct.Declared.{row}
 use Rattle.keys.proofs.Rest as rest
 use Rattle.def.proofs.EvcPoc as poc
+use Rattle.def.specs.Word.{twosComplement}
 use Rattle.def.proofs.WordLaws.{signed-of-complement}
 use Rattle.def.specs.declared.EvcPoc.{EvcPoc}
 use Rattle.keys.specs.declared.Rest.{Rest}
 use Rattle.registers.specs.Registers.{highestCount, restOf, pocOf, registersOf}
+
+-- what the machine reads of a field's bits is the field
+pub bits : (z : ℤ) → mag z < 2 ^ 31 → twosComplement (toZ w32 (ofZ w32 z)) ≡ twosComplement z
+bits z h = ap twosComplement (toZ-ofZ w32 z (record { sfits = h }))
 
 count-kept : (n : ℕ) → n < 256 → min n highestCount ≡ n
 count-kept n h = omega arith

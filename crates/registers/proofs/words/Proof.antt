@@ -1,19 +1,9 @@
 -- `registers::words` meets its contract. Assumes nothing.
-use mathlib.Core.Path.{_≡_, refl, ap}
-use Prim.Native.Nat.{_^_, _<_}
-use lib.IntN.{ℤ}
-use lib.Signed.{mag}
-use mir.Syntax.{w32}
-use mir.Val.{toZ, ofZ}
-use mir.ValLaws.{toZ-ofZ}
-use Rattle.def.specs.Word.{twosComplement}
+use mathlib.Core.Path.{refl}
 use borrow.Author.Needs.{needs}
+use Rattle.registers.proofs.Kept.{bits}
 use Rattle.registers.proofs.words.Statement.{statement}
 use Rattle.registers.proofs.words.Tie as tie
-
--- what the machine reads of a field's bits is the field
-bits : (z : ℤ) → mag z < 2 ^ 31 → twosComplement (toZ w32 (ofZ w32 z)) ≡ twosComplement z
-bits z h = ap twosComplement (toZ-ofZ w32 z (record { sfits = h }))
 
 cast-t6 : tie.Need-cast-t6
 cast-t6 c = search needs
