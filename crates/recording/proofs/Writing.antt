@@ -2,7 +2,7 @@
 -- Assumes nothing.
 use mathlib.Core.Path.{_≡_, refl, _∙_}
 use mathlib.Core.List.{List}
-use Prim.Native.Nat.{ℕ, _+_, _^_, _≤_, _<_}
+use Prim.Native.Nat.{ℕ, _≤_, _<_}
 use native.Mathlib.Omega.{arith}
 use lib.ListN.{length, getD, set, length-set}
 use lib.Seq.{getD-set-same, getD-set-other}
@@ -13,7 +13,7 @@ use Rattle.def.proofs.EvcPoc as poc
 use Rattle.def.proofs.WordLaws.{signed-of-complement}
 use Rattle.def.specs.Word.{twosComplement}
 use Rattle.def.specs.declared.EvcPoc.{EvcPoc}
-use Rattle.registers.specs.Registers.{registersLength, restOf, pocOf}
+use Rattle.registers.specs.Registers.{registersLength, restOf}
 use Rattle.recording.specs.Recorded.{Recorded}
 
 module _ (rs : List ℕ) (a b c : ℕ) where

@@ -1,5 +1,5 @@
 -- `entry::put::evc_picman_put_pic` meets its contract: a state that is not whole is handed back, and else the core's call is the definition's. Assumes nothing.
-use mathlib.Core.Path.{_≡_, refl, _∙_}
+use mathlib.Core.Path.{_≡_, _∙_}
 use mathlib.Core.Bool.{true}
 use borrow.Author.Tests.{not-true, not-false}
 use Rattle.opening.specs.Opening.{Opens}
