@@ -1,5 +1,5 @@
 // Put: marking, then the leased picture goes into the store. Marking goes into keys of its own, so that a put that is turned down after it finds
-// the keys as they were; they are made only where the put marks, since filling them takes longer than the rest of a put that does not.
+// the keys as they were; they are made only where the put marks.
 ghost use mathlib.Core.Path.{_≡_};
 ghost use mathlib.Core.Bool.{true};
 ghost use mathlib.Core.List.{List};

@@ -23,6 +23,7 @@ ghost use Rattle.running.specs.Slices.{slices, CallLeaves};
 ghost use Rattle.answering.specs.Answered.{OnSlices};
 ghost use Rattle.recording.specs.Recorded.{Recorded};
 
+// The record's registers; what the others are read as stays.
 fn write_record(registers: &mut [u32], poc: EvcPoc)
     requires { ⌜ length (now registers) ≡ registersLength ⌝ }
     ensures { λ _. ⌜ Recorded (now (registers .entry)) (now (registers .exit)) poc ⌝ }
