@@ -4,6 +4,7 @@
 - Every claim (a declaration `abbrev pub Name : Type 0` in a file specs/Claims.antt, or one that docs/CLAIMS.md names) has a proof:
   a declaration `name-in-parts : Name` in a folder proofs/ or in a file of laws in specs/.
 - Every file, function and must-fail edit that docs/CLAIMS.md names is there.
+- Every must-fail edit finds each text that it replaces, exactly once: what the gate says of it only after the proofs.
 - The README's map has the crates of crates.txt, each once.
 """
 import glob
@@ -46,6 +47,21 @@ def expanded(path):
     return ["".join(p).strip() for p in itertools.product(*parts)]
 
 
+def edits_that_miss():
+    for path in files("crates/*/must-fail/*.edit"):
+        crate, place, old, texts = path.split(os.sep)[1], None, None, {}
+        for line in text(path).splitlines():
+            if line.startswith("file: "):
+                place = "crates/%s/%s" % (crate, line[6:])
+            elif line.startswith("old: "):
+                old = line[5:]
+            elif line.startswith("new:"):
+                before = texts.get(place) or text(place)
+                if before.count(old) != 1:
+                    yield "%s: its old text stands %d times in %s" % (path, before.count(old), place)
+                texts[place] = before.replace(old, line[4:].removeprefix(" "))
+
+
 def main():
     claims = text("docs/CLAIMS.md")
     named = set(re.findall(r"`([^`\n]+)`", claims))
@@ -68,6 +84,7 @@ def main():
             for path in expanded(word):
                 if not os.path.exists(os.path.join(ROOT, "crates", path)):
                     wrong.append("docs/CLAIMS.md: there is no file crates/%s" % path)
+    wrong.extend(edits_that_miss())
     crates = re.findall(r"(?m)^(\w+):", text("crates.txt"))
     mapped = re.findall(r"(?m)^\| `(\w+)` \|", text("README.md").split("## The crates")[1])
     wrong.extend("README.md: crate %s is not in the map" % c for c in crates if c not in mapped)
