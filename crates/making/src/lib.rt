@@ -1,4 +1,5 @@
-// One call on the running machine, by a match on the call: the one road that the program's run, the static library and the calls on an image take.
+// One call on the running machine, by a match on the call: the one road of the program's run, the static library and the calls on an image, but for
+// the library's derivation (crate `recording`).
 // It works on a state known to be whole, where the call reads it.
 use calls::get_call;
 use calls::init_call;
