@@ -1,10 +1,12 @@
 // The running machine for C: three slices that the caller owns, keys, rows and registers, on which calls work in place, with any bits in them.
-// One function for each call, with plain numbers, and one for the bytes of a call line; all are thin over crates `calling`, `recording`, `renewing`, `one_entry` and `wire`.
-use calling::get_on;
-use calling::init_on;
-use calling::lists_on;
-use calling::out_on;
-use calling::put_on;
+// One function for each call, with plain numbers, and one for the bytes of a call line; all are thin over crates `call_lines` and `answering`,
+// `recording`, `renewing`, `one_entry` and `wire`.
+use answering::answer_on;
+use call_lines::get_line;
+use call_lines::init_line;
+use call_lines::lists_line;
+use call_lines::out_line;
+use call_lines::put_line;
 use one_entry::place_entry;
 use recording::derive_on;
 use renewing::renew;
@@ -15,7 +17,7 @@ ghost use Rattle.line.specs.declared.Line.the-variants.{Good};
 ghost use Rattle.refp.specs.Copy.{copy};
 ghost use Rattle.running.specs.Slices.{slices};
 ghost use Rattle.answering.specs.Answered.{OnSlices};
-ghost use Rattle.calling.specs.PutLine.{putLine};
+ghost use Rattle.call_lines.specs.PutLine.{putLine};
 ghost use Rattle.renewing.specs.Renewed.{Renewed};
 ghost use Rattle.wire.specs.Wire.{Wired};
 ghost use Rattle.one_entry.specs.OneEntry.{entryGiven, fits, EntryPlaced};
@@ -49,7 +51,12 @@ pub extern "C" fn picman_machine_init(
         let after = slices (now (keys .exit)) (now (rows .exit)) (now (registers .exit)) in
         ⌜ OnSlices r (Good (Init «max_pb_size» «max_num_ref_pics»)) before after ⌝ }
 {
-    init_on(keys, rows, registers, max_pb_size, max_num_ref_pics)
+    answer_on(
+        keys,
+        rows,
+        registers,
+        init_line(max_pb_size, max_num_ref_pics),
+    )
 }
 
 // Leases an empty picture.
@@ -64,7 +71,7 @@ pub extern "C" fn picman_machine_get(
         let after = slices (now (keys .exit)) (now (rows .exit)) (now (registers .exit)) in
         ⌜ OnSlices r (Good GetEmptyPic) before after ⌝ }
 {
-    get_on(keys, rows, registers)
+    answer_on(keys, rows, registers, get_line())
 }
 
 // Puts the leased picture into the store; flags above 15 give 18.
@@ -83,14 +90,11 @@ pub extern "C" fn picman_machine_put(
         let after = slices (now (keys .exit)) (now (rows .exit)) (now (registers .exit)) in
         ⌜ OnSlices r (putLine flags poc «temporal_id» «ref_pic_gap_length») before after ⌝ }
 {
-    put_on(
+    answer_on(
         keys,
         rows,
         registers,
-        flags,
-        poc,
-        temporal_id,
-        ref_pic_gap_length,
+        put_line(flags, poc, temporal_id, ref_pic_gap_length),
     )
 }
 
@@ -106,7 +110,7 @@ pub extern "C" fn picman_machine_out(
         let after = slices (now (keys .exit)) (now (rows .exit)) (now (registers .exit)) in
         ⌜ OnSlices r (Good OutPic) before after ⌝ }
 {
-    out_on(keys, rows, registers)
+    answer_on(keys, rows, registers, out_line())
 }
 
 // Builds the reference lists of a slice.
@@ -126,15 +130,11 @@ pub extern "C" fn picman_machine_lists(
         let after = slices (now (keys .exit)) (now (rows .exit)) (now (registers .exit)) in
         ⌜ OnSlices r (Good (RefpInit «slice_type» poc «layer_id» «last_intra» «max_num_ref_pics»)) before after ⌝ }
 {
-    lists_on(
+    answer_on(
         keys,
         rows,
         registers,
-        slice_type,
-        poc,
-        layer_id,
-        last_intra,
-        max_num_ref_pics,
+        lists_line(slice_type, poc, layer_id, last_intra, max_num_ref_pics),
     )
 }
 

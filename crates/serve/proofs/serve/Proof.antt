@@ -30,7 +30,14 @@ serve-lines-requires c κs =
     (slice-aggregate-serve-lines-3 (c .before)) (slice-aggregate-serve-lines-4 c) refl refl
 
 returns : tie.Need-returns
-returns c = search needs
+returns c =
+    let done = c .before .before .before .before in
+    let started = done .before .before .before .before .before .before in
+    record {
+      session = _; keys′ = _; rows′ = _; piece′ = _; out′ = _;
+      new = started .new-session .ensures;
+      served = done .serve-lines .ensures;
+    }
 
 pub serve-spec : {M : Type 1} → statement M
 serve-spec =

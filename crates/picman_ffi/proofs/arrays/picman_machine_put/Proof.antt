@@ -1,11 +1,14 @@
--- `picman_ffi::arrays::picman_machine_put` meets its contract: each part is found from what the parts before it give.
--- Assumes nothing.
+-- `picman_ffi::arrays::picman_machine_put` meets its contract: the line is the put's. Assumes nothing.
+use Rattle.answering.proofs.OnLine.{on-line}
 use borrow.Author.Needs.{needs}
 use Rattle.picman_ffi.proofs.arrays.picman_machine_put.Statement.{statement}
 use Rattle.picman_ffi.proofs.arrays.picman_machine_put.Tie as tie
 
-put-on-requires : tie.Need-put-on-requires
-put-on-requires c κs = search needs
+put-line-requires : tie.Need-put-line-requires
+put-line-requires c κs = search needs
+
+answer-on-requires : tie.Need-answer-on-requires
+answer-on-requires c κs = search needs
 
 same-length : tie.Need-same-length
 same-length c = search needs
@@ -17,8 +20,11 @@ same-length-3 : tie.Need-same-length-3
 same-length-3 c = search needs
 
 returns : tie.Need-returns
-returns c = search needs
+returns c =
+    let answered = c .before .before .before .before .before .before in
+    on-line (answered .before .put-line .ensures) (answered .answer-on .ensures)
 
 pub picman-machine-put-spec : {M : Type 1} → statement M
 picman-machine-put-spec =
-    tie.close (tie.spec put-on-requires same-length same-length-2 same-length-3 returns)
+    tie.close
+    (tie.spec put-line-requires answer-on-requires same-length same-length-2 same-length-3 returns)

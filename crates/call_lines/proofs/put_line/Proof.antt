@@ -1,7 +1,7 @@
--- `calling::put_line` meets its contract. Assumes nothing.
+-- `call_lines::put_line` meets its contract. Assumes nothing.
 use borrow.Author.Tests.{lt-ltb, le-ltb}
-use Rattle.calling.proofs.put_line.Statement.{statement}
-use Rattle.calling.proofs.put_line.Tie as tie
+use Rattle.call_lines.proofs.put_line.Statement.{statement}
+use Rattle.call_lines.proofs.put_line.Tie as tie
 
 returns : tie.Need-returns
 returns c = rw (lt-ltb 15 _ (c .if1 .taken))
