@@ -80,7 +80,9 @@ fn the_earliest_in_the_row() {
     assert_eq!(why(&high, &lists(SLICE_P, 8, 2, 0, 2), 0), Ok(Reason::LayerOverBound));
     assert_eq!(why(&two, &lists(SLICE_P, 4, 0, 0, 2), 1), Ok(Reason::SameNumber));
     for slice_type in [SLICE_P, UNKNOWN, 7] {
-        assert_eq!(why(&two, &lists(slice_type, 3, 0, 0, 2), 1), Ok(Reason::OtherSide));
+        for limit in [1, 2] {
+            assert_eq!(why(&two, &lists(slice_type, 3, 0, 0, limit), 1), Ok(Reason::OtherSide));
+        }
     }
     assert_eq!(why(&two, &lists(SLICE_B, 3, 0, 0, 2), 1), Ok(Reason::Taken(1)));
 }

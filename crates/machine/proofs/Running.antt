@@ -1,16 +1,17 @@
 -- From what a call of the core comes to, to what it does to the machine that the arrays stand for.
 -- Assumes nothing.
 use mathlib.Core.Path.{_≡_, refl, sym, ap, _∙_, subst}
-use mathlib.Core.Bool.{Bool, true, false, not, _||_}
+use mathlib.Core.Bool.{Bool, true, false, cond, not, _||_}
 use mathlib.Core.Bool as Bool
 use mathlib.Core.List.{List, _∷_}
 use Prim.Native.Nat.{ℕ, zero, suc, _+_, _-_, _*_, _≤_, _<_}
 use native.Mathlib.Omega.{arith}
+use lib.Dec.{eqb}
 use lib.ListN.{getD, take, drop, length-map, replicate, getD-replicate}
 use Rattle.seq.specs.Lists.{entriesFrom, entries}
-use Rattle.def.specs.declared.{EvcPm.EvcPm, EvcRefP.EvcRefP, PutCall.PutCall, RefpCall.RefpCall, PmResult.PmResult, RefpResult.RefpResult}
+use Rattle.def.specs.declared.{EvcPm.EvcPm, EvcRefP.EvcRefP, PutCall.PutCall, RefpCall.RefpCall, PmResult.PmResult, RefpResult.RefpResult, Answer.Answer}
 use Rattle.def.specs.State.{slots}
-use Rattle.keys.specs.Keys.{rowLength, headRow, numberRow, entryRow, rowsLength, rowAt, slotAt, entryAt, stands, listsIn, Sized}
+use Rattle.keys.specs.Keys.{rowLength, rowCount, headRow, numberRow, entryRow, rowsLength, rowAt, slotAt, entryAt, stands, listsIn, Sized}
 use Rattle.keys.specs.declared.{Called.Called}
 use Rattle.poc.specs.PictureNumber.{derive}
 use Rattle.poc.proofs.Why.{derive-refused}
@@ -26,7 +27,7 @@ use Rattle.def.specs.declared.Refusal.the-variants.{StateNotWhole}
 use Rattle.line.specs.Answers.{replyOf}
 use Rattle.machine.specs.declared.{Machine.Machine, Scalars.Scalars, Made.Made}
 use Rattle.machine.specs.Step.{newRefP, newLists, newMachine, putCallOf, refpCallOf, stepped, onState, onLists, onRecord, step, stepLine}
-use Rattle.machine.specs.Running.{machineIn, newScalars, readsState, callByte, isReady, Runs, CallRoom, Makes, madeOf, derivedOf}
+use Rattle.machine.specs.Running.{machineIn, newScalars, readsState, callByte, isReady, rowsKept, Runs, CallRoom, Makes, madeOf, derivedOf}
 use Rattle.machine.specs.Claims.{Sound}
 use Rattle.machine.proofs.EveryCall.{refused-answer, refused-number, line-sound}
 
@@ -87,6 +88,14 @@ out-on-whole pm w = rw w
 pub put-on-whole : (pm : EvcPm) (refp : List EvcRefP) (c : PutCall) → whole pm ≡ true → put pm refp c ≡ putWhole pm refp c
 put-on-whole pm refp c w = rw w refl
 
+reply-call : (call : ℕ) (a : Answer) → replyOf call a .call ≡ call
+reply-call call Answer.Done = refl
+reply-call call (Answer.Picture buf poc) = refl
+reply-call call Answer.NotYet = refl
+reply-call call Answer.NoMore = refl
+reply-call call (Answer.Counts forward backward) = refl
+reply-call call (Answer.Refused why) = refl
+
 module _ (keys rows : List ℕ) (s : Scalars) (call : ℕ) where
   abbrev m : Machine
   m = machineIn keys rows s
@@ -104,6 +113,7 @@ module _ (keys rows : List ℕ) (s : Scalars) (call : ℕ) where
       rw e (record {
         replies = ap (replyOf call) (c .answers ∙ ap (λ (y : PmResult). y .answer) (sym f));
         machine-is = rw (pm-is, c .lists-stay) refl;
+        other-rows = λ b kept no. calls .other-rows b (λ n a. no (sym (ap (λ (y : Answer). replyOf call y .buf) a)));
         still-sized = c .still-sized;
         refused-leaves = λ t. refused-answer call (r .answer) t (λ why a.
             let u = calls .untouched why a in
@@ -112,15 +122,18 @@ module _ (keys rows : List ℕ) (s : Scalars) (call : ℕ) where
 
   -- A call on state and lists.
   pub lists-makes : {made : Made} {r : Called} {rows′ : List ℕ} {c : RefpCall} {x : RefpResult}
-      → made ≡ madeOf call r (s .poc) → x ≡ listsWhole (stands keys rows (s .rest)) (listsIn rows) c → ListsCame r keys rows rows′ (s .rest) c
+      → eqb call 5 ≡ true → made ≡ madeOf call r (s .poc) → x ≡ listsWhole (stands keys rows (s .rest)) (listsIn rows) c → ListsCame r keys rows rows′ (s .rest) c
       → Makes made s keys rows keys rows′ (onLists call m x)
-  lists-makes {r = r} {rows′} {x = x} e f came =
+  lists-makes {r = r} {rows′} {x = x} five e f came =
       let c = came .comes in
       let pm-is : stands keys rows′ (r .rest) ≡ x .pm = c .lists-stand-for ∙ ap (λ (y : RefpResult). y .pm) (sym f) in
       let refp-is : listsIn rows′ ≡ x .refp = c .lists-are ∙ ap (λ (y : RefpResult). y .refp) (sym f) in
       rw e (record {
         replies = ap (replyOf call) (c .lists-answers ∙ ap (λ (y : RefpResult). y .answer) (sym f));
         machine-is = rw (pm-is, refp-is) refl;
+        other-rows = λ b kept no.
+            let of-lists : b < cond (eqb call 5) slots rowCount = subst (λ (n : ℕ). b < rowsKept n) (reply-call call (r .answer)) kept in
+            came .pictures-stay b (subst (λ (t : Bool). b < cond t slots rowCount) five of-lists);
         still-sized = c .lists-sized;
         refused-leaves = λ t. refused-answer call (r .answer) t (λ why a.
             let u = came .refused-leaves why a in
@@ -133,6 +146,7 @@ pub record-makes : (keys rows : List ℕ) (s : Scalars) (L t : ℕ) → Sized ke
 record-makes keys rows s L t sized e = rw e (record {
   replies = refl;
   machine-is = refl;
+  other-rows = λ b kept no. refl;
   still-sized = sized;
   refused-leaves = λ d. refused-number (derive L t (s .poc) .answer) d (λ why a.
       record { same-keys = refl; same-rows = refl; same-scalars = rw (derive-refused L t (s .poc) why a) refl });
@@ -191,6 +205,7 @@ module _ {keys rows : List ℕ} (s : Scalars) (sized : Sized keys rows) where
       both true r false v x = rw (e, not-whole-step (machineIn keys rows s) call r v) (record {
         replies = refl;
         machine-is = refl;
+        other-rows = λ b kept no. refl;
         still-sized = sized;
         refused-leaves = λ t. record { same-keys = refl; same-rows = refl; same-scalars = refl };
       })

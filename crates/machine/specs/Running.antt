@@ -1,15 +1,17 @@
 -- The running machine: which machine the lent arrays and the scalars stand for, and what a call on them comes to.
 -- Assumes nothing.
 use mathlib.Core.Path.{_≡_}
-use mathlib.Core.Bool.{Bool, true, false, not, _||_}
+use mathlib.Core.Bool.{Bool, true, false, cond, not, _||_}
 use mathlib.Core.List.{List}
-use Prim.Native.Nat.{ℕ}
+use Prim.Native.Nat.{ℕ, _<_}
+use lib.Dec.{eqb}
 use lib.IntN.{pos}
 use Rattle.def.specs.declared.EvcPoc.{EvcPoc}
-use Rattle.keys.specs.Keys.{stands, listsIn, Sized}
+use Rattle.keys.specs.Keys.{rowAt, rowCount, stands, listsIn, Sized}
+use Rattle.def.specs.State.{slots}
 use Rattle.keys.specs.declared.Called.{Called}
 use Rattle.poc.specs.PictureNumber.{derive, recordOf}
-use Rattle.line.specs.declared.Call.{Call}
+use Rattle.line.specs.declared.{Call.Call, Reply.Reply}
 use Rattle.line.specs.declared.Call.the-variants.{Init, GetEmptyPic, PutPic, OutPic, RefpInit, PocDerivation}
 use Rattle.line.specs.Answers.{replyOf}
 use Rattle.machine.specs.Step.{derivedReply}
@@ -49,10 +51,19 @@ pub record MachineUntouched (r : Made) (s : Scalars) (keys rows keys′ rows′ 
 abbrev pub isReady : List ℕ → List ℕ → Scalars → Call → Bool
 isReady keys rows s call = not (readsState call) || whole (stands keys rows (s .rest))
 
--- The reply and the machine after the call are the definition's, and a call that is turned down touches nothing.
+-- A list call writes the rows of the lists; the others keep them too.
+abbrev pub rowsKept : ℕ → ℕ
+rowsKept call = cond (eqb call 5) slots rowCount
+
+-- Of the rows that a call keeps, all but that of the buffer that its reply shows are as they were, also where no picture holds the buffer.
+abbrev pub OtherRowsStay : Reply → List ℕ → List ℕ → Type 0
+OtherRowsStay r rows rows′ = (b : ℕ) → b < rowsKept (r .call) → (b ≡ r .buf → ⊥) → rowAt rows′ b ≡ rowAt rows b
+
+-- The reply and the machine after the call are the definition's, the other rows stay, and a call that is turned down touches nothing.
 pub record Makes (r : Made) (s : Scalars) (keys rows keys′ rows′ : List ℕ) (wanted : Stepped) : Type 0 where
   pub replies : r .reply ≡ wanted .reply
   pub machine-is : machineIn keys′ rows′ (r .scalars) ≡ wanted .machine
+  pub other-rows : OtherRowsStay (r .reply) rows rows′
   pub still-sized : Sized keys′ rows′
   pub refused-leaves : TurnedDown (r .reply) → MachineUntouched r s keys rows keys′ rows′
 

@@ -65,7 +65,7 @@ module _ (keys rows : List ℕ) (rest : Rest) (sized : Sized keys rows) (w : who
           let at : getD (map (slotAt rows) keys) i noSlot ≡ slotAt rows (getD keys i 0) = map-at (slotAt rows) keys i 0 noSlot inside in
           let same : getWhole (stands keys rows rest) ≡ reuse (stands keys rows rest) i =
           get-idle (stands keys rows rest) free some ∙ ap (reuse (stands keys rows rest)) same-place in
-          calls-by same (calls-picture refl (record {
+          calls-by same (calls-picture refl (λ b no. refl) (record {
             answers = ap shown (sym at);
             stands-for = rw (map-remove (slotAt rows) 0 i keys, at) refl;
             lists-stay = refl;
@@ -106,7 +106,7 @@ module _ (keys rows : List ℕ) (rest : Rest) (sized : Sized keys rows) (w : who
             let written : rowAt after b ≡ zeros = row-whole rows b zeros r (omega arith) refl in
             let others = row-other rows b zeros rowLength r (omega arith) (omega arith) (omega arith) in
             let unseen : map (slotAt after) keys ≡ map (slotAt rows) keys = slots-unseen rows after b others keys (λ m. free-not-held b refl m) in
-            calls-by (new ∙ new-fresh (stands keys rows rest) (omega (arith, size))) (calls-picture refl (record {
+            calls-by (new ∙ new-fresh (stands keys rows rest) (omega (arith, size))) (calls-picture refl others (record {
               answers = rw (← same-free);
               stands-for = rw (unseen, slot-new after b (omega arith) written, same-free) refl;
               lists-stay = lists-stay rows b zeros rowLength r h (omega arith) (omega arith);

@@ -57,7 +57,7 @@ module _ (keys : List ℕ) (rest : Rest) (long : length keys ≡ slots) where
         let place : dueSlot pm ≡ due = map-lowest (slotAt rows) (isDue (rest .«poc_next_output»)) keys in
         let some : someDue pm ≡ true =
         map-any (slotAt rows) (isDue (rest .«poc_next_output»)) keys ∙ found-any (keyDue (rest .«poc_next_output»)) keys (omega arith) in
-        calls-by (out-due pm some ∙ ap (handOver pm) place) (calls-picture refl (record {
+        calls-by (out-due pm some ∙ ap (handOver pm) place) (calls-picture refl (λ b no. refl) (record {
           answers = ap shown (sym at);
           stands-for = rw (map-set (slotAt rows) keys due (keyHandedOver k), slot-handed-over rows k, at) refl;
           lists-stay = refl;
@@ -73,6 +73,7 @@ module _ (keys : List ℕ) (rest : Rest) (long : length keys ≡ slots) where
       on-not-yet some =
           calls-by (out-none-due pm none-due) (record {
             comes = record { answers = rw (map-any (slotAt rows) isWanted keys ∙ some) refl; stands-for = refl; lists-stay = refl; still-sized = sized };
+            other-rows = λ b no. refl;
             untouched = λ why e. let z : _≡_ {A = ℕ} 0 1 = cc in absurd (omega arith);
           })
 
@@ -81,5 +82,6 @@ module _ (keys : List ℕ) (rest : Rest) (long : length keys ≡ slots) where
       on-no-more nothing =
           calls-by (out-none-due pm none-due) (record {
             comes = record { answers = rw (map-any (slotAt rows) isWanted keys ∙ nothing) refl; stands-for = refl; lists-stay = refl; still-sized = sized };
+            other-rows = λ b no. refl;
             untouched = λ why e. let z : _≡_ {A = ℕ} 0 1 = cc in absurd (omega arith);
           })

@@ -143,7 +143,7 @@ module _ (keys rows : List ℕ) (rest : Rest) (sized : Sized keys rows) (w : who
     on-placed r keys′ rows′ h d =
         let f = found-free h in
         calls-by (place-stored (stands before rows rest₀) pm (listsIn rows) c (f .0) ∙ ap (λ (i : ℕ). stored i pm (listsIn rows) c) (f .1))
-        (calls-picture (d .shows) (record { answers = d .shows; stands-for = d .stands-placed; lists-stay = d .lists-placed; still-sized = d .sized-placed }))
+        (calls-picture (d .shows) (d .rows-placed) (record { answers = d .shows; stands-for = d .stands-placed; lists-stay = d .lists-placed; still-sized = d .sized-placed }))
 
 -- ---- the picture in its slot
 
@@ -205,6 +205,7 @@ module _ (keys rows : List ℕ) (rest : Rest) (c : PutCall) (pos : ℕ) (sized :
             )
             refl;
         lists-placed = lists-stay rows b (rowAt rows numberRow) n r h e few;
+        rows-placed = others;
         sized-placed =
             record {
               slots-long = length-set keys pos put-key ∙ sized .slots-long;

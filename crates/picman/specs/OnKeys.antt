@@ -10,7 +10,7 @@ use Rattle.seq.specs.Lists.{anyOf, highest, lowest}
 use Rattle.def.specs.declared.{EvcPm.EvcPm, PutCall.PutCall, PmResult.PmResult, Answer.Answer, Refusal.Refusal}
 use Rattle.keys.specs.declared.{Rest.Rest, Called.Called}
 use Rattle.def.specs.State.{slots, listPlaces, highestPoc}
-use Rattle.keys.specs.Keys.{keyPresent, keyWanted, keyEmpty, keyBuffer, keyBuffers, keyNumber, listsIn, stands, Sized, Comes, withLease}
+use Rattle.keys.specs.Keys.{keyPresent, keyWanted, keyEmpty, keyBuffer, keyBuffers, keyNumber, rowAt, listsIn, stands, Sized, Comes, withLease}
 use Rattle.picman.specs.Put.{remarked, listNumbers, placedAt}
 
 abbrev pub turnedDown : Refusal → Rest → Called
@@ -22,9 +22,14 @@ pub record Untouched (r : Called) (keys rows : List ℕ) (rest : Rest) (keys′ 
   pub same-rows : rows′ ≡ rows
   pub same-rest : r .rest ≡ rest
 
+-- Every row but that of the buffer that the answer shows is as it was, also where no picture holds the buffer.
+abbrev pub RowsButShown : Answer → List ℕ → List ℕ → Type 0
+RowsButShown answer rows rows′ = (b : ℕ) → ((n : ℕ) → answer ≡ Answer.Picture b n → ⊥) → rowAt rows′ b ≡ rowAt rows b
+
 -- A call comes to what its definition says of the state that keys, rows and rest stood for, the lists stay, and a call turned down touches nothing.
 pub record Calls (r : Called) (keys rows : List ℕ) (rest : Rest) (keys′ rows′ : List ℕ) (wanted : PmResult) : Type 0 where
   pub comes : Comes r keys′ rows′ (listsIn rows) wanted
+  pub other-rows : RowsButShown (r .answer) rows rows′
   pub untouched : (why : Refusal) → r .answer ≡ Answer.Refused why → Untouched r keys rows rest keys′ rows′
 
 -- ---- get
@@ -119,4 +124,5 @@ pub record Placed (r : Called) (keys rows : List ℕ) (rest : Rest) (c : PutCall
       let q = stands keys rows rest in
       stands keys′ rows′ (r .rest) ≡ placedAt pos c (listNumbers (q .«num_refp_0») (listsIn rows) (q .«pic_lease» .pic)) q
   pub lists-placed : listsIn rows′ ≡ listsIn rows
+  pub rows-placed : (b : ℕ) → (b ≡ keyBuffer (rest .lease) → ⊥) → rowAt rows′ b ≡ rowAt rows b
   pub sized-placed : Sized keys′ rows′

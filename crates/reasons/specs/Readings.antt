@@ -86,6 +86,8 @@ readings =
     -- same number before side; unknown takes the lower side only, and for B no side is left out
     ∷ reasonTold (twoMarked 0 0 4 0) (listCall P 4 0 0 2) 1 Reason.SameNumber
     ∷ reasonTold (twoMarked 0 0 4 0) (listCall P 3 0 0 2) 1 Reason.OtherSide
+    -- at its own turn the list is empty, though it is full at the pass's end
+    ∷ reasonTold (twoMarked 0 0 4 0) (listCall P 3 0 0 1) 1 Reason.OtherSide
     ∷ reasonTold (twoMarked 0 0 4 0) (listCall unknown 3 0 0 2) 1 Reason.OtherSide
     ∷ reasonTold (twoMarked 0 0 4 0) (listCall B 3 0 0 2) 1 (Reason.Taken 1)
     -- the higher side of B is judged in the pass upwards, and the place is in the whole list

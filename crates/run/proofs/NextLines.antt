@@ -76,6 +76,7 @@ unfolding stepLine
 bad-makes r runs e = rw e (record {
   replies = refl;
   machine-is = refl;
+  other-rows = λ b kept no. refl;
   still-sized = runs .sized;
   refused-leaves = λ t. record { same-keys = refl; same-rows = refl; same-scalars = refl };
 })

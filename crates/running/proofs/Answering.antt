@@ -12,7 +12,7 @@ use Rattle.line.specs.Answers.{badLineReply}
 use Rattle.registers.specs.Registers.{restOf, pocOf}
 use Rattle.machine.specs.declared.{Scalars.Scalars, Made.Made}
 use Rattle.machine.specs.Step.{step, stepLine}
-use Rattle.machine.specs.Running.{machineIn, Makes}
+use Rattle.machine.specs.Running.{machineIn, Makes, OtherRowsStay}
 use Rattle.machine.specs.Claims.{TurnedDown}
 use Rattle.running.specs.Slices.{Slices, slices, scalarsAt, machineAt, sized, replyTo, CallLeaves, Leaves}
 
@@ -40,6 +40,7 @@ module _ {made : Made} {s : Scalars} (call : Call) {keys rows keys′ rows′ : 
       record {
         replies = replies;
         machine-is = ap (machineIn keys′ rows′) (sym (u .same-scalars ∙ read)) ∙ machine-is;
+        other-rows = makes .other-rows;
         refused-leaves = λ _. rw (u .same-keys, u .same-rows);
       }
 
@@ -51,6 +52,7 @@ module _ {made : Made} {s : Scalars} (call : Call) {keys rows keys′ rows′ : 
       record {
         replies = replies;
         machine-is = ap (machineIn keys′ rows′) written ∙ machine-is;
+        other-rows = makes .other-rows;
         refused-leaves = λ t. absurd (n t);
       }
 
@@ -62,7 +64,14 @@ Replied r line before after = (r ≡ replyTo before line) × Leaves line before 
 
 -- nothing is written
 pub same-leaves : (line : Line) (s : Slices) → (sized s ≡ true → machineAt s ≡ stepLine (machineAt s) line .machine) → Leaves line s s
-same-leaves line s m = record { machine-is = m; refused-leaves = λ _. refl; keys-long = refl; rows-long = refl; registers-long = refl }
+same-leaves line s m = record {
+  machine-is = m;
+  other-rows = λ b kept no. refl;
+  refused-leaves = λ _. refl;
+  keys-long = refl;
+  rows-long = refl;
+  registers-long = refl;
+}
 
 pub wrong-size : (line : Line) (s : Slices) → sized s ≡ false → Replied badLineReply line s s
 unfolding replyTo
@@ -81,6 +90,7 @@ good-line {r} {call} before after e c keys rows registers =
       is,
       record {
         machine-is = λ _. c .machine-is;
+        other-rows = subst (λ (t : Reply). OtherRowsStay t (before .rows) (after .rows)) is (c .other-rows);
         refused-leaves = λ t. c .refused-leaves (rw is t);
         keys-long = keys;
         rows-long = rows;

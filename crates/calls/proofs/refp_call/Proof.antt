@@ -1,4 +1,5 @@
 -- `calls::refp_call` meets its contract. Assumes nothing.
+use mathlib.Core.Path.{refl}
 use Rattle.machine.proofs.Running.{lists-makes}
 use Rattle.refp.proofs.ListLaws.{on-whole}
 use borrow.Author.Needs.{needs}
@@ -20,7 +21,7 @@ returns c =
     let taken = called .before .before .before .before .before in
     let s = taken .before .before .before in
     let a = s .args in
-    lists-makes (a .keys .now) (a .rows .now) (a .s) 5 (c .made .ensures) (on-whole _ _ (a .call) (s .pre .whole-state)) (called .refp-init .ensures)
+    lists-makes (a .keys .now) (a .rows .now) (a .s) 5 refl (c .made .ensures) (on-whole _ _ (a .call) (s .pre .whole-state)) (called .refp-init .ensures)
 
 pub refp-call-spec : {M : Type 1} → statement M
 refp-call-spec = tie.close (tie.spec refp-init-requires made-requires same-length returns)
