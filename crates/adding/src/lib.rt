@@ -6,14 +6,14 @@ use keys::NUMBER_ROW;
 use keys::ROW;
 use storing::write_head;
 ghost use mathlib.Core.Path.{_≡_};
-ghost use Prim.Native.Nat.{_+_, _≤_};
+ghost use Prim.Native.Nat.{_+_, _*_, _≤_};
 ghost use lib.Dec.{eqb};
 ghost use lib.ListN.{length, take, drop};
 ghost use Rattle.seq.specs.Lists.{anyOf};
 ghost use Rattle.def.specs.State.{listPlaces};
 ghost use Rattle.keys.specs.Keys.{rowLength, rowsLength, listsIn};
 ghost use Rattle.refp.specs.Copy.{copy};
-ghost use Rattle.refp.specs.Running.{entryWith, CopyCame};
+ghost use Rattle.refp.specs.Running.{entryWith, rowsWithEntry, CopyCame};
 
 // Whether the number stands among the `n` entries from place `from` on.
 fn number_stands(rows: &[u32], from: usize, n: usize, poc: u32) -> bool
@@ -43,8 +43,10 @@ pub fn copy_refp(
 ) -> Answer
     requires { ⌜ (length (now rows) ≡ rowsLength) × (length (now numbers) ≡ rowLength) ⌝ }
     ensures { λ r.
-        let wanted = copy (listsIn (now (rows .entry))) cnt lidx (entryWith head poc (now (numbers .entry))) in
-        ⌜ CopyCame r (now (rows .entry)) (now (rows .exit)) wanted ⌝ }
+        let before = now (rows .entry) in
+        let stored = rowsWithEntry before (lidx * listPlaces + cnt) head poc (now (numbers .entry)) in
+        let wanted = copy (listsIn before) cnt lidx (entryWith head poc (now (numbers .entry))) in
+        ⌜ CopyCame r before (now (rows .exit)) stored wanted ⌝ }
 {
     if (20 < cnt) | (1 < lidx) {
         return Answer::Refused(Refusal::NoSuchPlace);

@@ -8,6 +8,6 @@ use Rattle.keys.specs.Keys.{listsIn}
 use Rattle.refp.specs.Copy.{copy}
 use Rattle.refp.specs.Running.{CopyCame}
 
-pub copy-comes-to : {answer : Answer} {refp : List EvcRefP} {rows after : List ℕ} (cnt lidx : ℕ) (e : EvcRefP) → listsIn rows ≡ refp
-    → CopyCame answer rows after (copy (listsIn rows) cnt lidx e) → record { answer = answer; refp = listsIn after } ≡ copy refp cnt lidx e
+pub copy-comes-to : {answer : Answer} {refp : List EvcRefP} {rows after stored : List ℕ} (cnt lidx : ℕ) (e : EvcRefP) → listsIn rows ≡ refp
+    → CopyCame answer rows after stored (copy (listsIn rows) cnt lidx e) → record { answer = answer; refp = listsIn after } ≡ copy refp cnt lidx e
 copy-comes-to cnt lidx e same came = rw (came .answers, came .lists-are) (ap (λ (x : List EvcRefP). copy x cnt lidx e) same)

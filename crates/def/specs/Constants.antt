@@ -1,4 +1,4 @@
--- Section 9 of the specification: slice type 0 is unknown, 1 is I, 2 is P and 3 is B; every other byte is unknown too.
+-- Section 1 of the specification, slice types: the byte that a call has for each. Any other byte counts as unknown.
 -- Assumes nothing.
 use Prim.Native.Nat.{ℕ}
 use mathlib.Core.Bool.{cond}

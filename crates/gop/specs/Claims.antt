@@ -25,8 +25,8 @@ NeverBadLayer =
     (count length interval inter : ℕ) (hierarchy : Bool) (r : EvcPoc)
     → plan count length interval inter hierarchy r .answer ≡ PlanAnswer.Refused Refusal.BadLayer → ⊥
 
--- With the hierarchy on, the counts from one multiple of the length to just before the next, with no key picture between, are a
--- full run in the distance rule: for each of the four lengths, every interval, P and B, and every record on entry.
+-- A group planned in its order with the hierarchy on, from a multiple of the length up to the next one and without a key picture inside, is a full run
+-- of the distance rule: for each of the four lengths, any interval, P and B, and whatever record stood there.
 abbrev pub PlansAreFullRun : Type 0
 PlansAreFullRun =
     (length interval inter p : ℕ) (r : EvcPoc) → isInter (sliceTypeOf inter) ≡ true → Group length interval p

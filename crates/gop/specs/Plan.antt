@@ -1,6 +1,6 @@
 -- The group planner: from the running count, the group's length, the key interval, the inter slice type, the hierarchy and the
--- picture number record, a picture's slice type, depth, number and reference flag, with the record after. Written from document
--- 02 and the Rust's `decide_normal_gop`. Assumes nothing.
+-- picture number record, a picture's slice type, depth, number and reference flag, with the record after. Section 6 of the
+-- specification, and the Rust's `decide_normal_gop`. Assumes nothing.
 use Prim.Native.Nat.{ℕ, _-_, _%_}
 use mathlib.Core.Bool.{Bool, true, false, cond, _&&_, _||_, not}
 use lib.Dec.{ltb, eqb}
@@ -26,12 +26,11 @@ isInter SliceType.«EVC_ST_I» = false
 isInter SliceType.«EVC_ST_P» = true
 isInter SliceType.«EVC_ST_B» = true
 
--- With the hierarchy off, a count below the length that is neither a multiple of it nor a key picture makes the Rust subtract
--- below zero.
+-- Where the Rust's subtraction falls below zero: no hierarchy, less than a length from the start, and neither 0 nor a key picture.
 abbrev pub belowZero : ℕ → ℕ → Bool → Bool → Bool
 belowZero count length key hierarchy = not hierarchy && not key && not (eqb (count % length) 0) && ltb count length
 
--- 19: another inter type, also where it isn't used; a count over 2,147,483,647; or that subtraction.
+-- Refusal 19: an inter type other than P and B, whether it is needed or not; a count above the highest picture number; and that subtraction.
 abbrev pub badPlan : ℕ → ℕ → Bool → SliceType → Bool → Bool
 badPlan count length key inter hierarchy = not (isInter inter) || ltb maxPoc count || belowZero count length key hierarchy
 

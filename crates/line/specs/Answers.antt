@@ -22,8 +22,8 @@ noBuffer = 255
 abbrev pub reply : ℕ → ℕ → ℕ → ℕ → Reply
 reply call status buf value = record { call = call; status = status; buf = buf; value = value }
 
--- The status, buffer number and four bytes of each answer: 0 done, 40 hex not yet, 41 hex no more, or the refusal.
--- A call turned down, a put of no picture and an out that hands none show ff and zero.
+-- What a line shows of an answer: its status, which is 0, 64 for not yet, 65 for no more or the refusal's number, and a buffer number and a value
+-- where the answer has them.
 abbrev pub replyOf : ℕ → Answer → Reply
 replyOf call Done = reply call 0 noBuffer 0
 replyOf call (Picture buf poc) = reply call 0 buf poc

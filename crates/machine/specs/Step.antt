@@ -33,7 +33,7 @@ use Rattle.line.specs.Answers.{reply, replyOf, noBuffer, twosComplement, badLin
 use Rattle.machine.specs.declared.Machine.{Machine}
 use Rattle.machine.specs.declared.Stepped.{Stepped}
 
--- The program starts from the new state, lists and record all zero.
+-- The machine that every run begins with: nothing in it, and every number 0.
 abbrev pub newRefP : EvcRefP
 newRefP = record { present = false; buf = 0; poc = 0; «list_poc» = replicate listPlaces 0 }
 

@@ -8,7 +8,7 @@ ghost use lib.ListN.{length};
 ghost use Rattle.def.specs.State.{listPlaces};
 ghost use Rattle.keys.specs.Keys.{listsIn};
 ghost use Rattle.refp.specs.Copy.{copy};
-ghost use Rattle.one_entry.specs.OneEntry.{entryGiven, fits, EntryPlaced};
+ghost use Rattle.one_entry.specs.OneEntry.{entryGiven, fits, rowsPlaced, EntryPlaced};
 
 fn is_fit(rows: &[u32], present: u8, list_poc: &[u32]) -> bool
     ensures { λ r. ⌜ r ≡ fits (now (rows .entry)) present (now («list_poc» .entry)) ⌝ }
@@ -49,8 +49,10 @@ pub fn place_entry(
     ensures { λ r.
         let before = now (rows .entry) in
         let numbers = now («list_poc» .entry) in
-        let wanted = copy (listsIn before) cnt lidx (entryGiven present buf poc numbers) in
-        ⌜ EntryPlaced r (fits before present numbers) before (now (rows .exit)) wanted ⌝ }
+        let entry = entryGiven present buf poc numbers in
+        let placed = rowsPlaced before cnt lidx entry in
+        let wanted = copy (listsIn before) cnt lidx entry in
+        ⌜ EntryPlaced r (fits before present numbers) before (now (rows .exit)) placed wanted ⌝ }
 {
     if !is_fit(rows, present, list_poc) {
         return BAD_LINE;

@@ -1,4 +1,4 @@
--- What is claimed of a pass over an order. A second way to build the lists, and whoever asks why a picture is not in one, rest on these.
+-- What is claimed of a pass over an order; the question why a picture is not in a list rests on these.
 -- Proofs: proofs/PassLaws.antt, proofs/Taken.antt, proofs/Backward.antt.
 -- Assumes nothing.
 use Prim.Native.Nat.{ℕ, _≤_}

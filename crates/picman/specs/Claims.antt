@@ -1,5 +1,5 @@
 -- What the calls promise beyond their definitions: under which condition each refusal is given, and under no other; that a call turned down
--- changes nothing; that a whole state stays whole; and that no picture is lost. The proofs stand in proofs/.
+-- changes nothing; that a whole state stays whole; and that no buffer number is lost. The proofs stand in proofs/.
 -- Assumes nothing.
 use Prim.Native.Nat.{ℕ, _≤_, _<_}
 use mathlib.Core.Path.{_≡_}

@@ -1,4 +1,5 @@
--- Section 8 of the specification, init (`evc_picman_init`): sets the two limits and step 1 and drops the lease; slots and next output stay.
+-- Section 8 of the specification, init (`evc_picman_init`): both limits are set anew, output goes on in steps
+-- of 1, and a leased picture is given up. What the slots hold, and the next output number, stay.
 -- Assumes nothing.
 use Prim.Native.Nat.{ℕ}
 use mathlib.Core.Bool.{cond, not, _||_}

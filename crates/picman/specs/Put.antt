@@ -18,11 +18,11 @@ use Rattle.whole.specs.Whole.{whole}
 use Rattle.marking.specs.Marking.{marking, flush}
 use Rattle.picman.specs.Get.{pmRefused}
 
--- IDR: every slot is unmarked. Otherwise layer 0 marks; other layers do neither.
+-- The marks, before the picture is placed: an IDR clears them all, another picture of layer 0 runs the marking, one above layer 0 leaves them.
 abbrev pub remarked : PutCall → EvcPm → EvcPm
 remarked c pm = cond (c .«is_idr») (flush pm) (cond (eqb (c .«temporal_id») 0) (marking (c .«ref_pic_gap_length») pm) pm)
 
--- Its first entries, as many as the forward count n, take the forward list's numbers; the rest keep what they had.
+-- The picture's list numbers: those of the first n forward entries, n being the forward count, and behind them its old ones.
 abbrev pub listNumbers : ℕ → List EvcRefP → EvcPic → List ℕ
 listNumbers n refp p = map (λ (e : EvcRefP). e .poc) (take n refp) ++ drop n (p .«list_poc»)
 
@@ -36,11 +36,11 @@ taken c numbers = record {
   «list_poc» = numbers;
 }
 
--- A reference goes to the slot equal to the reference count, any other picture to the highest empty slot.
+-- Where the picture goes: a reference right behind the marked ones, to the place that their count names, any other picture to the last empty slot.
 abbrev pub placeFor : PutCall → EvcPm → ℕ
 placeFor c pm = cond (c .«ref_pic») (pm .«cur_num_ref_pics») (highest isEmpty (pm .pic))
 
--- 5: a reference whose slot is occupied after marking.
+-- Refusal 5: marking has left a picture in the slot that the reference would take.
 abbrev pub slotTaken : PutCall → EvcPm → Bool
 slotTaken c pm = c .«ref_pic» && getD (pm .pic) (pm .«cur_num_ref_pics») noSlot .present
 

@@ -20,7 +20,7 @@ ghost use Rattle.answering.specs.Answered.{OnSlices};
 ghost use Rattle.call_lines.specs.PutLine.{putLine};
 ghost use Rattle.renewing.specs.Renewed.{Renewed};
 ghost use Rattle.wire.specs.Wire.{Wired};
-ghost use Rattle.one_entry.specs.OneEntry.{entryGiven, fits, EntryPlaced};
+ghost use Rattle.one_entry.specs.OneEntry.{entryGiven, fits, rowsPlaced, EntryPlaced};
 
 // Writes the new machine, all zero, whatever stood there: 0.
 #[no_mangle]
@@ -169,8 +169,10 @@ pub extern "C" fn picman_machine_copy(
     ensures { λ r.
         let before = now (rows .entry) in
         let numbers = now («list_poc» .entry) in
-        let wanted = copy (listsIn before) cnt lidx (entryGiven present buf poc numbers) in
-        ⌜ EntryPlaced r (fits before present numbers) before (now (rows .exit)) wanted ⌝ }
+        let entry = entryGiven present buf poc numbers in
+        let placed = rowsPlaced before cnt lidx entry in
+        let wanted = copy (listsIn before) cnt lidx entry in
+        ⌜ EntryPlaced r (fits before present numbers) before (now (rows .exit)) placed wanted ⌝ }
 {
     place_entry(rows, cnt, lidx, present, buf, poc, list_poc)
 }

@@ -70,7 +70,7 @@ fn picman_set_pic_to_pb(
     }
 }
 
-// The second part of a put, for any way of marking: `next` and `count` are the slots marked anew, and only now do they take the keys' place.
+// The second part of a put, over any slots marked anew: `next` and `count` are the slots marked anew, and only now do they take the keys' place.
 pub fn place_marked(
     keys: &mut [u64],
     rows: &mut [u32],

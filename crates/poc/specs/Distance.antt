@@ -27,7 +27,7 @@ pub record Step : Type 0 where
 abbrev pub step : EvcPoc → Call → Step
 step r c = record { call = c; answer = derive (c .log2) (c .layer) r .answer; after = derive (c .log2) (c .layer) r .poc }
 
--- A list of derivations, each getting the record as the one before left it.
+-- What a list of derivations does, the record handed on from each to the next.
 unfoldable pub run : EvcPoc → List Call → List Step
 run r [] = []
 run r (c ∷ cs) = step r c ∷ run (step r c .after) cs
@@ -55,11 +55,11 @@ numberOf s = shown (s .answer)
 abbrev pub layerOf : Step → ℕ
 layerOf s = s .call .layer
 
--- The decoding offset of an accepted call is what the record holds after it.
+-- The decoding offset that a call leaves in the record.
 abbrev pub offsetAfter : Step → ℤ
 offsetAfter s = s .after .«prev_doc_offset» .0
 
--- The later accepted calls of a sub-group: they have length 2^L and layers from 1 to L that never fall, each layer t at most 2^(t-1) times.
+-- What is accepted behind the first call of a sub-group: its length, layers from 1 up to L in order, and of a layer t no more than the 2^(t-1) offsets that it has.
 pub record LaterCalls (L : ℕ) (steps : List Step) : Type 0 where
   pub same-length : (s : Step) → List·Memᴰ s steps → s .call .log2 ≡ L
   pub layers : (s : Step) → List·Memᴰ s steps → (1 ≤ layerOf s) × (layerOf s ≤ L)
@@ -71,8 +71,8 @@ pub record AfterKey (p : ℕ) (r : EvcPoc) : Type 0 where
   pub previous : r .«prev_poc_val» ≡ p
   pub offset : r .«prev_doc_offset» .0 ≡ pos 0
 
--- The first accepted call of the list has length 2^L, layer 0 and number p, and the later accepted ones are as above.
--- Calls turned down may stand anywhere, in front of it too.
+-- A sub-group: what is accepted first is of layer 0 and length 2^L and gets the number p, what is accepted behind it is as above. Calls that are turned
+-- down may stand anywhere, also in front.
 pub record SubGroup (L p : ℕ) (r : EvcPoc) (calls : List Call) : Type 0 where
   pub short : L ≤ maxLog2
   pub key : Step

@@ -37,7 +37,7 @@ abbrev pub offsetOf : ℤ → ℕ
 offsetOf (pos d) = d
 offsetOf (negsuc d) = 0
 
--- A decoding offset belongs to a layer if it is above 0 and 1 + floor(log2 d) is the layer.
+-- Whether d is a decoding offset of layer t: it has t binary digits. 0 is of no layer.
 unfoldable pub inLayer : ℕ → ℕ → Bool
 unfolding floorLog2
 inLayer t d = ltb 0 d && eqb (1 + floorLog2 d) t
@@ -70,12 +70,11 @@ settled r z prev d =
     cond (tooHigh z || ltb maxPoc prev) (derivationRefused NumberTooHigh r)
     (record { answer = Derived (record { 0 = z }); poc = recordOf z prev d })
 
--- Layer 0: the number is previous + 2^L, the offset becomes 0 and previous becomes the number.
+-- A picture of layer 0 opens the next sub-group: it lies one length behind the previous number, takes its place, and sets the offset back to 0.
 abbrev pub keyPicture : ℕ → EvcPoc → Derivation
 keyPicture L r = settled r (pos (r .«prev_poc_val» + 2 ^ L)) (r .«prev_poc_val» + 2 ^ L) 0
 
--- Another layer: the offset goes up by one, mod 2^L, and if that gives 0 previous grows by 2^L.
--- Then the search; a wrap in it does not move previous.
+-- A picture of another layer: one step of the offset, which moves previous on where it comes round to 0, and then the search, which never moves it.
 abbrev pub nextOffset : ℕ → EvcPoc → ℕ
 nextOffset L r = (offsetOf (r .«prev_doc_offset» .0) + 1) % 2 ^ L
 

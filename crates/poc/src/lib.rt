@@ -1,5 +1,5 @@
 // Picture numbers: what a derivation answers and leaves. The definitions and the theorems about them stand in specs/ and proofs/, the functions
-// in crates `offsets` and `deriving`.
+// in crates `offsets`, `numbering` and `deriving`.
 use def::EvcPoc;
 use def::PocVal;
 use def::Refusal;

@@ -42,8 +42,8 @@ atTurn a up slot ks = passOn a up (passBegins a up ks) (inFront slot (walked up 
 abbrev pub otherSide : Bool → ℕ → Key → Bool
 otherSide both poc k = not both && ltb poc (k .poc)
 
--- The row: taken, at the list's end; not marked; full; old; same number; other side; layer over the bound. The last is tested for nothing, and
--- holds all the same where it is given (`EachExactly` in Claims.antt).
+-- The row: taken, at the list's end; not marked; full; old; same number; other side; layer over the bound. The last has no test of its own,
+-- and holds all the same where it is given (`EachExactly` in Claims.antt).
 abbrev pub judged : Ask → Bool → Bool → Bool → ℕ → ℕ → Key → Reason
 judged a both marked up cnt bound k =
     cond (marked && passStep a up cnt bound k .taken) (Reason.Taken cnt)

@@ -1,6 +1,6 @@
 -- The calls on the running form: what the arrays stand for afterwards, and what is left as it is, number for number.
 -- Assumes nothing.
-use Prim.Native.Nat.{ℕ, _+_, _/_, _%_, _<_, _≤_}
+use Prim.Native.Nat.{ℕ, _+_, _*_, _/_, _%_, _<_, _≤_}
 use mathlib.Core.Path.{_≡_}
 use mathlib.Core.Bool.{true}
 use mathlib.Core.List.{List, map, List·Memᴰ}
@@ -10,7 +10,7 @@ use lib.Seq.{paste}
 use Rattle.def.specs.State.{slots, listPlaces, highestPoc}
 use Rattle.def.specs.declared.{EvcRefP.EvcRefP, RefpCall.RefpCall, CopyResult.CopyResult, Answer.Answer, Refusal.Refusal}
 use Rattle.keys.specs.declared.{Rest.Rest, Called.Called}
-use Rattle.keys.specs.Keys.{keyPresent, keyBuffer, keyNumber, rowAt, rowsLength, slotAt, stands, listsIn, Sized, ComesLists}
+use Rattle.keys.specs.Keys.{keyPresent, keyBuffer, keyNumber, rowLength, headRow, numberRow, entryRow, rowAt, rowsLength, slotAt, stands, listsIn, Sized, ComesLists}
 use Rattle.ordering.specs.Order.{Key}
 use Rattle.ordering.specs.InNumbers.{keysIn}
 use Rattle.refp.specs.Lists.{entryOf, dropped, isI, listsWhole}
@@ -23,6 +23,12 @@ PicturesStay rows after = (b : ℕ) → b < slots → rowAt after b ≡ rowAt ro
 abbrev pub entryWith : ℕ → ℕ → List ℕ → EvcRefP
 entryWith head poc numbers = record { present = eqb (head % 2) 1; buf = head / 2 % 256; poc = poc; «list_poc» = numbers }
 
+-- The rows with these parts of an entry at place j, and every other number as it was.
+abbrev pub rowsWithEntry : List ℕ → ℕ → ℕ → ℕ → List ℕ → List ℕ
+rowsWithEntry rows j head poc numbers =
+    let headed = set (set rows (rowLength * headRow + j) head) (rowLength * numberRow + j) poc in
+    paste headed (rowLength * (entryRow + j)) numbers rowLength
+
 -- ---- entries stored in place
 
 -- The key of a picture that a whole state can hold.
@@ -31,7 +37,7 @@ pub record HeldKey (key : ℕ) : Type 0 where
   pub buffer : keyBuffer key < slots
   pub number : keyNumber key ≤ highestPoc
 
--- The entry at place j is this one, and nothing else has changed.
+-- The entry at place j is this one; the other entries and the rows of the buffers stand for what they did.
 pub record EntryStored (rows after : List ℕ) (j : ℕ) (e : EvcRefP) : Type 0 where
   pub lists-are : listsIn after ≡ set (listsIn rows) j e
   pub pictures-stay : PicturesStay rows after
@@ -66,10 +72,11 @@ pub record ListsCame (r : Called) (keys rows after : List ℕ) (rest : Rest) (ca
   pub refused-leaves : (why : Refusal) → r .answer ≡ Answer.Refused why → (after ≡ rows) × (r .rest ≡ rest)
   pub slice-i-leaves : isI (call .«slice_type») ≡ true → (after ≡ rows) × (r .rest ≡ rest)
 
--- A copy comes to its definition; one that is turned down leaves the rows as they are.
-pub record CopyCame (answer : Answer) (rows after : List ℕ) (wanted : CopyResult) : Type 0 where
+-- A copy comes to its definition; one that is turned down leaves the rows as they are, any other leaves those stored.
+pub record CopyCame (answer : Answer) (rows after stored : List ℕ) (wanted : CopyResult) : Type 0 where
   pub answers : answer ≡ wanted .answer
   pub lists-are : listsIn after ≡ wanted .refp
+  pub rows-are : ((why : Refusal) → answer ≡ Answer.Refused why → ⊥) → after ≡ stored
   pub pictures-stay : PicturesStay rows after
   pub rows-long : length after ≡ rowsLength
   pub refused-leaves : (why : Refusal) → answer ≡ Answer.Refused why → after ≡ rows

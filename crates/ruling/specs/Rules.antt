@@ -18,14 +18,14 @@ pub record Rule : Type 0 where
 abbrev pub noBound : ℕ
 noBound = 255
 
--- P: layer 0 takes every lower number; layer 1 takes layers 0 and 1; a higher layer takes any first, then layers 0 and 1.
--- Above layer 0 there is no age test.
+-- P. At layer 0 no layer is too high, and old pictures are left out. Above it age does not count: layer 1 refers to layers 0 and 1, a higher one to
+-- whatever comes first and from then on to layers 0 and 1.
 abbrev pub ruleP : ℕ → Rule
 ruleP layer =
     cond (eqb layer 0) (record { start = noBound; after = λ _. noBound; aged = true })
     (record { start = cond (eqb layer 1) 1 noBound; after = λ _. 1; aged = false })
 
--- B and unknown: the bound is max(layer, 1) - 1, and after a picture is taken the same of its layer.
+-- B and unknown: the bound is one below the layer, but not below 0; a picture that is taken sets it so by its own layer.
 abbrev pub ruleB : ℕ → Rule
 ruleB layer = record { start = below layer; after = below; aged = true }
 
@@ -36,7 +36,7 @@ ruleOf SliceType.«EVC_ST_I» layer = ruleB layer
 ruleOf SliceType.«EVC_ST_P» layer = ruleP layer
 ruleOf SliceType.«EVC_ST_B» layer = ruleB layer
 
--- A picture is old if last intra is at least 0, the current number is at least last intra, and the picture's is below it.
+-- Whether a picture is old: it lies before the last intra picture, and the current one does not. A negative last intra makes none old.
 abbrev pub isOld : ℤ → ℕ → Key → Bool
 isOld (pos intra) poc k = leb intra poc && ltb (k .poc) intra
 isOld (negsuc n) poc k = false

@@ -1,7 +1,7 @@
 // The running machine on three slices that a caller owns, keys, rows and registers, for callers that cannot promise anything: any bits may
 // stand in them and every call ends. A wrong size is answered as a bad line is, with 18, a state that is not whole with 7, and a line that is
 // turned down leaves every number as it was. The static library's calls take the one road of `reply_on`, all but the
-// derivation (crate `recording`).
+// derivation by numbers (crate `recording`).
 use checking::checked_call;
 use def::is_refusal_number;
 use line::Call;

@@ -9,7 +9,7 @@ ghost use Rattle.seq.specs.Lists.{countIf, lowest, highest};
 ghost use Rattle.def.specs.State.{slots};
 ghost use Rattle.keys.specs.Keys.{keyIdle, keyEmpty, keyMarked};
 
-// The lowest slot whose picture is neither marked nor wanted for output; 27 where none is (picman_get_empty_pic_from_list).
+// The first slot whose picture nobody needs, neither as a reference nor for output; 27 where there is none (picman_get_empty_pic_from_list).
 pub fn lowest_idle(keys: &[u64]) -> usize
     requires { ⌜ length (now keys) ≡ slots ⌝ }
     ensures { λ r. ⌜ r ≡ lowest keyIdle (now (keys .entry)) ⌝ }

@@ -10,7 +10,7 @@ use Rattle.def.specs.declared.EvcPm.{EvcPm}
 use Rattle.def.specs.State.{slots, listPlaces, highestPoc, isMarked}
 pub use Rattle.def.specs.State.{isPresent, bufferOf}
 
--- The leases, one at most today, and the places for pictures: the slots and, last, the leases.
+-- The leases, a list of one, and the places for pictures: the slots and, last, the leases.
 abbrev pub leases : EvcPm → List Slot
 leases pm = pm .«pic_lease» ∷ []
 
@@ -35,7 +35,7 @@ zeroIfEmpty s =
 abbrev pub pocFits : Slot → Bool
 pocFits s = not (s .present) || leb (s .pic .poc) highestPoc
 
--- The rules, in the document's order.
+-- The rules, in the order of section 2 of the specification.
 abbrev pub rules : EvcPm → List Bool
 rules pm =
     leb (pm .«max_pb_size») slots

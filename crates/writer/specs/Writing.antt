@@ -1,6 +1,6 @@
--- A writer of call lines: one line, newline last, at the front of a lent buffer, and its length, newline counted; the bytes behind it stay.
--- Refusal 18 where the fields are no call, as a put with flags over 15; then 20, exactly where the buffer is shorter than the line with its newline.
--- Neither writes anything.
+-- Writing a call line: the digits of the call's bytes and of its check byte, then a newline, from the start of a buffer that the caller lends. What is
+-- given is how many bytes that took; behind them the buffer is as it was. First 18, for fields that are no call's, as flags above 15; then 20, for a
+-- line that with its newline does not fit. Under both the buffer is untouched.
 -- Assumes nothing.
 use Prim.Native.Nat.{ℕ, _+_, _≤_}
 use mathlib.Core.Path.{_≡_}
