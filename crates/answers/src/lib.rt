@@ -1,4 +1,4 @@
-// Answer lines read back: any eight bytes that sum to zero, in hex.
+// Answer lines read back: eight bytes in hex whose sum is 0 modulo 256, whatever they say.
 use framing::read_framed;
 use hex::word;
 use line::Reply;

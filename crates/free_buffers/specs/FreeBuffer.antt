@@ -1,4 +1,4 @@
--- Section 8 of the specification, get: a new picture gets the smallest buffer number that no slot holds.
+-- Section 8 of the specification, get: which buffer a new picture is in, the lowest one that is in no slot.
 -- Assumes nothing.
 use mathlib.Core.Path.{_≡_}
 use mathlib.Core.Bool.{Bool, false}

@@ -1,4 +1,4 @@
--- A group as it is planned: the counts from one multiple of the length to just before the next, in turn, with the hierarchy on.
+-- A group as it is planned: the counts of one length, the first of them a multiple of it, in their order and with the hierarchy on.
 -- Assumes nothing.
 use Prim.Native.Nat.{ℕ, zero, suc, _+_, _-_, _%_, _≤_, _<_}
 use mathlib.Core.Path.{_≡_}

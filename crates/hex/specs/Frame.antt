@@ -1,4 +1,4 @@
--- What a line is, whatever it means: lower-case hex pairs, whose bytes, check byte last, sum to zero, wrapping at 256.
+-- What a line is, whatever it means: bytes in lower-case hex, the last of them a check byte that brings their sum to 0 modulo 256.
 -- The bytes before the check byte are the line's body.
 -- Assumes nothing.
 use Prim.Native.Nat.{ℕ, _-_, _<_}

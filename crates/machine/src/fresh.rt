@@ -1,4 +1,4 @@
-// The program starts from the new state, lists and record all zero.
+// The machine that a run begins with: nothing in it, and every number 0.
 use crate::Machine;
 use crate::Scalars;
 use def::DocOffset;

@@ -31,7 +31,7 @@ reuse pm i =
       pm = withStore pm (removeAt emptySlot i (pm .pic)) (getD (pm .pic) i noSlot) (pm .«cur_pb_size» - 1) (pm .«cur_num_ref_pics»);
     }
 
--- A new picture is all zero and gets the smallest buffer number that no slot holds.
+-- A new picture: every field 0, in the first buffer that is free.
 abbrev pub freeBuffer : EvcPm → ℕ
 freeBuffer pm = smallestNotIn (buffersOf (pm .pic))
 

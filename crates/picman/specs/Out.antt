@@ -1,4 +1,5 @@
--- Section 8 of the specification, out (`evc_picman_out_pic`): the lowest slot wanted for output whose number is due is handed over.
+-- Section 8 of the specification, out (`evc_picman_out_pic`): of the pictures wanted for output that are due, the one in the lowest slot is
+-- handed over.
 -- Assumes nothing.
 use Prim.Native.Nat.{ℕ, _+_}
 use mathlib.Core.Bool.{Bool, cond, not, _&&_}
@@ -27,7 +28,7 @@ handOver pm i =
           withOutput pm (set (pm .pic) i (handedOver (getD (pm .pic) i noSlot))) (getD (pm .pic) i noSlot .pic .poc + pm .«poc_increase»);
     }
 
--- Some are wanted and none is due: not yet. None is wanted: no more.
+-- Nothing to hand over: not yet, where a picture is still wanted, else no more.
 abbrev pub noneDue : EvcPm → PmResult
 noneDue pm = record { answer = cond (anyOf isWanted (pm .pic)) NotYet NoMore; pm = pm }
 

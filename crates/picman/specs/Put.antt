@@ -26,7 +26,7 @@ remarked c pm = cond (c .«is_idr») (flush pm) (cond (eqb (c .«temporal_id») 
 abbrev pub listNumbers : ℕ → List EvcRefP → EvcPic → List ℕ
 listNumbers n refp p = map (λ (e : EvcRefP). e .poc) (take n refp) ++ drop n (p .«list_poc»)
 
--- The leased picture takes its number, layer and flags, and these list numbers.
+-- The picture as it is put: number, layer and flags are the call's, and these are its list numbers.
 abbrev pub taken : PutCall → List ℕ → EvcPic
 taken c numbers = record {
   poc = c .poc;

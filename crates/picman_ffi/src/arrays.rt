@@ -37,7 +37,7 @@ pub extern "C" fn picman_machine_new(
     renew(keys, rows, registers)
 }
 
-// Sets the two limits and step 1 and drops the lease.
+// Sets the limits of store and lists; the step of output becomes 1, and a leased picture is given up.
 #[no_mangle]
 pub extern "C" fn picman_machine_init(
     keys: &mut [u64],

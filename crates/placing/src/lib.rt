@@ -24,7 +24,8 @@ use picman::refuse;
 use sliding::copy_keys;
 use store::highest_empty;
 
-// Where the picture goes: a reference to the slot of the reference count, any other to the highest empty slot. 27 where that slot is taken.
+// Where the picture goes: a reference to the place that the count of references names, any other picture to the last empty slot. 27 where that place is
+// taken.
 fn place_for(keys: &[u64], count: u8, ref_pic: bool) -> usize
     requires { ⌜ (length (now keys) ≡ slots) × (count < slots) ⌝ }
     ensures { λ r. ⌜ r ≡ keyPlace «ref_pic» count (now (keys .entry)) ⌝ }

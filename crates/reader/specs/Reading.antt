@@ -1,4 +1,4 @@
--- A reader of answer lines at a position of a buffer: an answer, or refusal 18 with the place of the line's first byte, counted from 0, or, at the
+-- A reader of answer lines at a position of a buffer: an answer, or refusal 18 with the place where the line begins (the first byte's is 0), or, at the
 -- end or past it, no more; then it goes on after the next newline, after a refusal too.
 -- Assumes nothing.
 use Prim.Native.Nat.{ℕ, zero, suc, _+_}

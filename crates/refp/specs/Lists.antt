@@ -10,7 +10,7 @@ use Rattle.whole.specs.Whole.{whole}
 use Rattle.ordering.specs.Order.{Key, down}
 use Rattle.choosing.specs.Choice.{Chosen, turned-down, chosen, choice}
 
--- An entry holds a picture's buffer number with a flag, its number and its list numbers.
+-- What an entry says of the picture of a key: that there is one, its buffer, its number and its list numbers.
 abbrev pub entryOf : List Slot → Key → EvcRefP
 entryOf xs k =
     let s = getD xs (k .slot) noSlot in

@@ -15,7 +15,7 @@ use Rattle.whole.specs.Rules.{Whole}
 abbrev pub WholeIsRules : Type 0
 WholeIsRules = (pm : EvcPm) → (whole pm ≡ true) ↔ Whole pm
 
--- The new state, all zero and empty, is whole.
+-- A state without pictures whose numbers are all 0 is whole.
 abbrev pub NewWhole : Type 0
 NewWhole = whole newPm ≡ true
 

@@ -24,7 +24,7 @@ buffersOf xs = map bufferOf (select isPresent xs)
 abbrev pub heldBuffers : EvcPm → List ℕ
 heldBuffers pm = buffersOf (places pm)
 
--- An empty slot or lease is an all-zero record.
+-- Where there is no picture, in a slot or as a lease, every field is 0.
 abbrev pub zeroIfEmpty : Slot → Bool
 zeroIfEmpty s =
     s .present
