@@ -1,13 +1,12 @@
 // The line of each call on the running machine, from plain numbers, for callers that have no bytes: the library answers it as it answers any line.
 // The derivation, which goes a road of its own, stands in crate `recording`.
 use line::Call;
+use line::HIGHEST_FLAGS;
 use line::Line;
 ghost use mathlib.Core.Path.{_≡_};
 ghost use Rattle.line.specs.declared.Call.the-variants.{Init, GetEmptyPic, OutPic, RefpInit};
 ghost use Rattle.line.specs.declared.Line.the-variants.{Good};
 ghost use Rattle.call_lines.specs.PutLine.{putLine};
-
-const HIGHEST_FLAGS: u8 = 15;
 
 pub fn init_line(max_pb_size: u8, max_num_ref_pics: u8) -> Line
     ensures { λ r. ⌜ r ≡ Good (Init «max_pb_size» «max_num_ref_pics») ⌝ }

@@ -16,13 +16,12 @@ use making::make_call;
 use making::reads_state;
 use wholeness::is_whole;
 ghost use mathlib.Core.Path.{_≡_};
-ghost use Rattle.machine.specs.Step.{step};
 ghost use mathlib.Core.List.{List};
 ghost use Prim.Native.Nat.{ℕ};
 ghost use lib.ListN.{length};
 ghost use Rattle.def.specs.State.{slots};
 ghost use Rattle.keys.specs.Keys.{Sized};
-ghost use Rattle.machine.specs.Running.{machineIn, callByte, isReady, Makes};
+ghost use Rattle.machine.specs.Running.{callByte, isReady, MakesCall};
 
 fn call_byte(call: Call) -> u8
     ensures { λ r. ⌜ r ≡ callByte call ⌝ }
@@ -69,11 +68,7 @@ fn is_ready(keys: &[u64], s: Scalars, call: Call) -> bool
 // A call on any bits: one that reads the state tests first whether it is whole.
 pub fn checked_call(keys: &mut [u64], rows: &mut [u32], s: Scalars, call: Call) -> Made
     requires { ⌜ Sized (now keys) (now rows) ⌝ }
-    ensures { λ r.
-        let keys-in = now (keys .entry) in
-        let rows-in = now (rows .entry) in
-        let m = machineIn keys-in rows-in s in
-        ⌜ Makes r s keys-in rows-in (now (keys .exit)) (now (rows .exit)) (step m call) ⌝ }
+    ensures { λ r. ⌜ MakesCall r s (now (keys .entry)) (now (rows .entry)) (now (keys .exit)) (now (rows .exit)) call ⌝ }
 {
     if is_ready(keys, s, call) {
         return make_call(keys, rows, s, call);

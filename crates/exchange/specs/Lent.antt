@@ -4,16 +4,18 @@ use Prim.Native.Nat.{ℕ}
 use mathlib.Core.Path.{_≡_}
 use mathlib.Core.Bool.{true}
 use mathlib.Core.List.{List}
+use Rattle.def.specs.Refusals.{refusalNumber}
+use Rattle.def.specs.declared.Refusal.{Refusal}
 use Rattle.image.specs.Image.{imageBytes, pmOf, refpOf, pocOf, isImage}
 use Rattle.machine.specs.declared.Machine.{Machine}
 
 -- The number that is given where a size or a flag byte does not fit, and for a bad call: that of a bad line.
 abbrev pub badLine : ℕ
-badLine = 18
+badLine = refusalNumber Refusal.BadLine
 
 -- The number that is given where a state is not whole.
 abbrev pub notWhole : ℕ
-notWhole = 7
+notWhole = refusalNumber Refusal.StateNotWhole
 
 pub record Left : Type 0 where
   pub given : ℕ

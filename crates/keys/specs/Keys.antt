@@ -56,7 +56,8 @@ keyHandedOver k = k - k / 4 % 2 * 4
 abbrev pub keyMade : ℕ → ℕ → ℕ → Bool → Bool → ℕ
 keyMade poc layer b wanted ref = poc * 65536 + layer * 256 + b * 8 + boolByte wanted * 4 + boolByte ref * 2 + 1
 
--- ---- the rows: of each buffer, of the entries' flags and buffer numbers, of their numbers, and of each entry's list numbers
+-- ---- the rows: of each buffer, of the entries' flags and buffer numbers, of their numbers, and of each entry's list numbers. Both lists have
+-- places for two rows of numbers.
 
 abbrev pub rowLength : ℕ
 rowLength = listPlaces
@@ -65,16 +66,16 @@ abbrev pub headRow : ℕ
 headRow = slots
 
 abbrev pub numberRow : ℕ
-numberRow = 29
+numberRow = headRow + 2
 
 abbrev pub entryRow : ℕ
-entryRow = 31
+entryRow = numberRow + 2
 
 abbrev pub rowCount : ℕ
-rowCount = 73
+rowCount = entryRow + 2 * listPlaces
 
 abbrev pub rowsLength : ℕ
-rowsLength = 1533
+rowsLength = rowLength * rowCount
 
 unfoldable pub rowAt : List ℕ → ℕ → List ℕ
 rowAt rows b = take rowLength (drop (rowLength * b) rows)

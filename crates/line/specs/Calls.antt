@@ -21,9 +21,12 @@ longestLine = 26
 abbrev pub isCall : ℕ → ℕ → List ℕ → Bool
 isCall call size body = eqb (byteAt body 0) call && eqb (length body) size
 
--- The flags of a put are 1 IDR, 2 wanted for output, 4 reference, 8 no picture; higher bits are bad.
+-- The flags of a put: 1 IDR, 2 wanted for output, 4 reference, 8 no picture. There are no others.
+abbrev pub highestFlags : ℕ
+highestFlags = 15
+
 abbrev pub badFlags : ℕ → Bool
-badFlags flags = ltb 15 flags
+badFlags flags = ltb highestFlags flags
 
 abbrev pub putIn : List ℕ → Option Call
 putIn b =

@@ -10,6 +10,9 @@ pub const NO_BUFFER: u8 = 0xff;
 // The status of a bad line, and what the library gives where a size does not fit.
 pub const BAD_LINE: u8 = 18;
 
+// The flags of a put are four bits.
+pub const HIGHEST_FLAGS: u8 = 15;
+
 // What a status is where a call was done and hands over no picture.
 pub const NOT_YET: u8 = 0x40;
 

@@ -14,7 +14,7 @@ use Rattle.poc.specs.PictureNumber.{derive, recordOf}
 use Rattle.line.specs.declared.{Call.Call, Reply.Reply}
 use Rattle.line.specs.declared.Call.the-variants.{Init, GetEmptyPic, PutPic, OutPic, RefpInit, PocDerivation}
 use Rattle.line.specs.Answers.{replyOf}
-use Rattle.machine.specs.Step.{derivedReply}
+use Rattle.machine.specs.Step.{derivedReply, step}
 use Rattle.machine.specs.Claims.{TurnedDown}
 use Rattle.whole.specs.Whole.{whole}
 use Rattle.machine.specs.declared.{Machine.Machine, Stepped.Stepped, Scalars.Scalars, Made.Made}
@@ -66,6 +66,10 @@ pub record Makes (r : Made) (s : Scalars) (keys rows keys′ rows′ : List ℕ)
   pub other-rows : OtherRowsStay (r .reply) rows rows′
   pub still-sized : Sized keys′ rows′
   pub refused-leaves : TurnedDown (r .reply) → MachineUntouched r s keys rows keys′ rows′
+
+-- What a call on the machine in these arrays makes of it.
+abbrev pub MakesCall : Made → Scalars → List ℕ → List ℕ → List ℕ → List ℕ → Call → Type 0
+MakesCall r s keys rows keys′ rows′ call = Makes r s keys rows keys′ rows′ (step (machineIn keys rows s) call)
 
 -- A call's answer as a reply; state and lists are the call's, the record stays.
 abbrev pub madeOf : ℕ → Called → EvcPoc → Made

@@ -13,8 +13,7 @@ use machine::Scalars;
 use machine::fields::put_call_of;
 use machine::fields::refp_call_of;
 ghost use mathlib.Core.Path.{_≡_};
-ghost use Rattle.machine.specs.Step.{step};
-ghost use Rattle.machine.specs.Running.{machineIn, readsState, CallRoom, Makes};
+ghost use Rattle.machine.specs.Running.{readsState, CallRoom, MakesCall};
 
 // Whether a call reads the state.
 pub fn reads_state(call: Call) -> bool
@@ -50,11 +49,7 @@ pub fn reads_state(call: Call) -> bool
 // A call, where it reads the state, on one that is whole.
 pub fn make_call(keys: &mut [u64], rows: &mut [u32], s: Scalars, call: Call) -> Made
     requires { ⌜ CallRoom (now keys) (now rows) s call ⌝ }
-    ensures { λ r.
-        let keys-in = now (keys .entry) in
-        let rows-in = now (rows .entry) in
-        let m = machineIn keys-in rows-in s in
-        ⌜ Makes r s keys-in rows-in (now (keys .exit)) (now (rows .exit)) (step m call) ⌝ }
+    ensures { λ r. ⌜ MakesCall r s (now (keys .entry)) (now (rows .entry)) (now (keys .exit)) (now (rows .exit)) call ⌝ }
 {
     match call {
         Call::Init {

@@ -1,6 +1,7 @@
 // The fields of the two long calls, put and lists, unpacked from the body of a call line. The reader of call lines asks this.
 use hex::word;
 use line::Call;
+use line::HIGHEST_FLAGS;
 use line::Line;
 ghost use mathlib.Core.Path.{_≡_};
 ghost use Prim.Native.Nat.{_+_, _<_};
@@ -22,7 +23,7 @@ pub fn put_in(body: &[u8]) -> Line
     ensures { λ r. ⌜ r ≡ lineFor (putIn (now (body .entry))) ⌝ }
 {
     let flags = body[1];
-    if 15 < flags {
+    if HIGHEST_FLAGS < flags {
         return Line::Bad;
     }
     Line::Good(Call::PutPic {
