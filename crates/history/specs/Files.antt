@@ -117,9 +117,10 @@ abbrev pub DerivedDiffer : Type 0
 DerivedDiffer =
     (lines : List Line) → Clip (newMachine .poc) (derivations lines) → Distinct (derivedNumbers (turns newMachine lines))
 
--- And where each number is put and wanted at most as often as the derivations of a clip gave it, no number is handed over twice.
+-- And where each number is put and wanted at most as often as the derivations of a clip gave it, no number is handed over twice. For 0 it
+-- may be once more: no derivation of a clip gives 0, the number of the IDR picture that a clip begins with.
 abbrev pub ClipFilesDiffer : Type 0
 ClipFilesDiffer =
     (lines : List Line) → Clip (newMachine .poc) (derivations lines)
-    → ((n : ℕ) → countIf (eqb n) (putNumbers (turns newMachine lines)) ≤ countIf (eqb n) (derivedNumbers (turns newMachine lines)))
+    → ((n : ℕ) → countIf (eqb n) (putNumbers (turns newMachine lines)) ≤ countIf (eqb n) (0 ∷ derivedNumbers (turns newMachine lines)))
     → Distinct (outNumbers (turns newMachine lines))
