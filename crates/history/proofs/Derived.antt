@@ -78,7 +78,7 @@ sub-low a b n e = pick (ltb a b) refl e
 
 module _ (c : poc.Call) (r : EvcPoc) where
   -- the number that an answer gives, if any, fits
-  abbrev Fits : PocAnswer → Type 0
+  abbrev pub Fits : PocAnswer → Type 0
   Fits a = mag (numberOf (record { call = c; answer = a; after = r })) < 2 ^ 31
 
   abbrev derivedAs : ℤ → ℕ → ℕ → Derivation
@@ -98,7 +98,7 @@ module _ (c : poc.Call) (r : EvcPoc) where
       pick true = omega arith
       pick false = small n refl
 
-  derived-fits : Fits (derive (c .log2) (c .layer) r .answer)
+  pub derived-fits : Fits (derive (c .log2) (c .layer) r .answer)
   unfolding derive
   derived-fits = pick (ltb maxLog2 (c .log2)) refl (ltb (c .log2) (c .layer)) (badRecord r) (eqb (c .layer) 0)
     where
