@@ -5,7 +5,7 @@ use mathlib.Core.Path.{_≡_, refl, sym, ap, _∙_, subst}
 use mathlib.Core.Bool.{Bool, true, false, cond, _||_}
 use mathlib.Core.Bool as Bool
 use mathlib.Core.Logic.{⊎-elim}
-use mathlib.Core.List.{List, [], _∷_, _++_, map, flatMap, List·Memᴰ, List·Memᴰ·not-nil, List·Memᴰ·cases-cons}
+use mathlib.Core.List.{List, [], _∷_, _++_, map, flatMap, List·Memᴰ, List·Memᴰ·not-nil, List·Memᴰ·cases-cons, Memᴰ·map}
 use native.Mathlib.Omega.{arith}
 use lib.Dec.{ltb, eqb}
 use lib.IntN.{ℤ, pos, negsuc, subℕ}
@@ -13,7 +13,7 @@ use lib.Pow.{pow-mono}
 use lib.Signed.{mag}
 use borrow.Author.Tests.{ltb-true, ltb-false}
 use Rattle.seq.specs.Lists.{select, Distinct}
-use Rattle.seq.proofs.Members.{mem-select}
+use Rattle.seq.proofs.Members.{mem-select, mem-unmap}
 use Rattle.seq.proofs.Distinct.{distinct-by, fewer-distinct}
 use Rattle.def.specs.declared.EvcPoc.{EvcPoc}
 use Rattle.def.specs.declared.Refusal.the-variants.{NumberTooHigh, BadLayer, BadRecord}
@@ -24,7 +24,9 @@ use Rattle.poc.specs.PictureNumber.{maxPoc, maxLog2, settled, keyPicture, other
 use Rattle.poc.specs.PictureNumber.{nextOffset, nextPrevious, offsetFrom, number, recordOf, derive}
 use Rattle.poc.specs.Distance as poc
 use Rattle.poc.specs.Distance.{run, acceptedSteps, numberOf}
-use Rattle.poc.proofs.Clip.{clip-rule}
+use Rattle.poc.specs.Clip.{Clip}
+use Rattle.poc.proofs.Differences.{pos-inj}
+use Rattle.poc.proofs.Clip.{clip-above, clip-rule}
 use Rattle.line.specs.declared.{Call.Call, Line.Line}
 use Rattle.machine.specs.declared.Machine.{Machine}
 use Rattle.machine.specs.Step.{newMachine, derivedReply, step, stepLine}
@@ -76,7 +78,7 @@ sub-low a b n e = pick (ltb a b) refl e
 
 module _ (c : poc.Call) (r : EvcPoc) where
   -- the number that an answer gives, if any, fits
-  abbrev Fits : PocAnswer → Type 0
+  abbrev pub Fits : PocAnswer → Type 0
   Fits a = mag (numberOf (record { call = c; answer = a; after = r })) < 2 ^ 31
 
   abbrev derivedAs : ℤ → ℕ → ℕ → Derivation
@@ -96,7 +98,7 @@ module _ (c : poc.Call) (r : EvcPoc) where
       pick true = omega arith
       pick false = small n refl
 
-  derived-fits : Fits (derive (c .log2) (c .layer) r .answer)
+  pub derived-fits : Fits (derive (c .log2) (c .layer) r .answer)
   unfolding derive
   derived-fits = pick (ltb maxLog2 (c .log2)) refl (ltb (c .log2) (c .layer)) (badRecord r) (eqb (c .layer) 0)
     where
@@ -140,7 +142,20 @@ derived-differ lines clip =
     subst (λ (l : List ℕ). Distinct l) (sym (derived-shown newMachine lines))
     (distinct-by numberOf wordOf (acceptedSteps r cs) (λ a b m n e. sym (same-word r cs m) ∙ ap signedOf e ∙ same-word r cs n) (clip-rule r cs clip))
 
+-- the numbers of a clip lie above the record's previous number, so none is 0
+zero-not-derived : (lines : List Line) → Clip (newMachine .poc) (derivations lines) → List·Memᴰ 0 (derivedNumbers (turns newMachine lines)) → ⊥
+zero-not-derived lines clip m =
+    let r = newMachine .poc in
+    let cs = derivations lines in
+    let u = mem-unmap wordOf (acceptedSteps r cs) (rw (derived-shown newMachine lines) at m) in
+    let a = clip-above clip (numberOf (u .0)) (Memᴰ·map numberOf (u .1)) .1 in
+    let zero : signedOf 0 ≡ pos 0 = refl in
+    let same = pos-inj 0 (a .value) (sym zero ∙ ap signedOf (u .2) ∙ same-word r cs (u .1) ∙ a .is) in
+    let high = a .above in
+    omega arith
+
 pub clip-files-differ : ClipFilesDiffer
+unfolding Distinct
 clip-files-differ lines clip few =
     let ts = turns newMachine lines in
-    files-differ lines (fewer-distinct (derivedNumbers ts) (putNumbers ts) few (derived-differ lines clip))
+    files-differ lines (fewer-distinct (0 ∷ derivedNumbers ts) (putNumbers ts) few (zero-not-derived lines clip, derived-differ lines clip))

@@ -3,3 +3,4 @@ pub mod Calls
 pub mod Pictures
 pub mod Files
 pub mod Derived
+pub mod ReadBack

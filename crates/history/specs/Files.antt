@@ -6,6 +6,7 @@ use mathlib.Core.Path.{_≡_}
 use mathlib.Core.Bool.{Bool, cond, _&&_}
 use mathlib.Core.List.{List, [], _∷_, map, flatMap}
 use lib.Dec.{eqb}
+use lib.ListN.{length}
 use Rattle.seq.specs.Lists.{countIf, select, Distinct}
 use Rattle.def.specs.declared.Slot.{Slot}
 use Rattle.def.specs.State.{isWanted}
@@ -14,6 +15,8 @@ use Rattle.poc.specs.Clip.{Clip}
 use Rattle.line.specs.declared.{Call.Call, Line.Line, Reply.Reply}
 use Rattle.line.specs.Calls.{readLine}
 use Rattle.line.specs.Answers.{answerLine}
+use Rattle.reader.specs.declared.Read.{Read}
+use Rattle.reader.specs.Reading.{readsFrom}
 use Rattle.machine.specs.declared.Machine.{Machine}
 use Rattle.machine.specs.Step.{newMachine, putCallOf, stepLine}
 use Rattle.run.specs.Run.{program}
@@ -38,6 +41,15 @@ leaves m (l ∷ ls) = leaves (stepLine m l .machine) ls
 abbrev pub ProgramShows : Type 0
 ProgramShows =
     (input : List ℕ) → program input ≡ flatMap (λ (t : Turn). answerLine (t .reply)) (turns newMachine (map readLine (linesFrom [] input)))
+
+abbrev pub replies : List Turn → List Reply
+replies ts = map (λ (t : Turn). t .reply) ts
+
+-- And reading what it prints from the start gives these replies back, in order, and nothing else.
+abbrev pub ProgramIsRead : Type 0
+ProgramIsRead =
+    (input : List ℕ) (n : ℕ) → length (program input) ≤ n
+    → readsFrom n (program input) 0 ≡ map Read.Answer (replies (turns newMachine (map readLine (linesFrom [] input))))
 
 -- A number under a condition.
 abbrev pub ifSo : Bool → ℕ → List ℕ
@@ -117,9 +129,10 @@ abbrev pub DerivedDiffer : Type 0
 DerivedDiffer =
     (lines : List Line) → Clip (newMachine .poc) (derivations lines) → Distinct (derivedNumbers (turns newMachine lines))
 
--- And where each number is put and wanted at most as often as the derivations of a clip gave it, no number is handed over twice.
+-- And where each number is put and wanted at most as often as the derivations of a clip gave it, no number is handed over twice. For 0 it
+-- may be once more: no derivation of a clip gives 0, the number of the IDR picture that a clip begins with.
 abbrev pub ClipFilesDiffer : Type 0
 ClipFilesDiffer =
     (lines : List Line) → Clip (newMachine .poc) (derivations lines)
-    → ((n : ℕ) → countIf (eqb n) (putNumbers (turns newMachine lines)) ≤ countIf (eqb n) (derivedNumbers (turns newMachine lines)))
+    → ((n : ℕ) → countIf (eqb n) (putNumbers (turns newMachine lines)) ≤ countIf (eqb n) (0 ∷ derivedNumbers (turns newMachine lines)))
     → Distinct (outNumbers (turns newMachine lines))

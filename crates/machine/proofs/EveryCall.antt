@@ -41,7 +41,7 @@ use Rattle.machine.specs.declared.Machine.{Machine}
 use Rattle.machine.specs.Step.{putCallOf, refpCallOf, derivedReply, step, stepLine}
 use Rattle.machine.specs.Claims.{TurnedDown, CallUnchanged, LineUnchanged, CallSound, LineSound, NewSound}
 use Rattle.machine.specs.Claims.{CallNotSeven, LineNotSeven, OfNoLine, CallGivesNone, LineGivesNone}
-use Rattle.machine.specs.Claims.OfNoLine.{planners, writers}
+use Rattle.machine.specs.Claims.OfNoLine.{same-number, no-such-place, bad-length, bad-plan, no-room}
 
 -- ---- a call that is turned down
 
@@ -182,28 +182,46 @@ line-not-seven m Bad s e = absurd (omega arith)
 
 -- what turns a call down is none of them
 init-none : {pm : EvcPm} {size refs : ℕ} {why : Refusal} → OfNoLine why → InitTurnedDown pm size refs why → ⊥
-init-none planners = elim [ ]
-init-none writers = elim [ ]
+init-none same-number = elim [ ]
+init-none no-such-place = elim [ ]
+init-none bad-length = elim [ ]
+init-none bad-plan = elim [ ]
+init-none no-room = elim [ ]
 
 get-none : {pm : EvcPm} {why : Refusal} → OfNoLine why → GetTurnedDown pm why → ⊥
-get-none planners = elim [ ]
-get-none writers = elim [ ]
+get-none same-number = elim [ ]
+get-none no-such-place = elim [ ]
+get-none bad-length = elim [ ]
+get-none bad-plan = elim [ ]
+get-none no-room = elim [ ]
 
 put-none : {pm : EvcPm} {c : PutCall} {why : Refusal} → OfNoLine why → PutTurnedDown pm c why → ⊥
-put-none planners = elim [ ]
-put-none writers = elim [ ]
+put-none same-number = elim [ ]
+put-none no-such-place = elim [ ]
+put-none bad-length = elim [ ]
+put-none bad-plan = elim [ ]
+put-none no-room = elim [ ]
 
 out-none : {pm : EvcPm} {why : Refusal} → OfNoLine why → OutTurnedDown pm why → ⊥
-out-none planners = elim [ ]
-out-none writers = elim [ ]
+out-none same-number = elim [ ]
+out-none no-such-place = elim [ ]
+out-none bad-length = elim [ ]
+out-none bad-plan = elim [ ]
+out-none no-room = elim [ ]
 
 lists-none : {pm : EvcPm} {c : RefpCall} {why : Refusal} → OfNoLine why → ListsReason pm c why → ⊥
-lists-none planners = elim [ ]
-lists-none writers = elim [ ]
+lists-none same-number = elim [ ]
+lists-none no-such-place = elim [ ]
+lists-none bad-length = elim [ ]
+lists-none bad-plan = elim [ ]
+lists-none no-room = elim [ ]
 
 derive-none : {L t : ℕ} {r : EvcPoc} {why : Refusal} → OfNoLine why → Refusing L t r why → ⊥
-derive-none planners = elim [ ]
-derive-none writers = elim [ ]
+derive-none same-number = elim [ ]
+derive-none no-such-place = elim [ ]
+derive-none bad-length = elim [ ]
+derive-none bad-plan = elim [ ]
+derive-none no-room = elim [ ]
 
 pub call-gives-none : CallGivesNone
 unfolding step
@@ -219,5 +237,8 @@ call-gives-none m (PocDerivation L t) why o e = derive-none o (derive-why L t (m
 pub line-gives-none : LineGivesNone
 unfolding stepLine
 line-gives-none m (Good c) why o e = call-gives-none m c why o e
-line-gives-none m Bad _ planners e = absurd (omega arith)
-line-gives-none m Bad _ writers e = absurd (omega arith)
+line-gives-none m Bad _ same-number e = absurd (omega arith)
+line-gives-none m Bad _ no-such-place e = absurd (omega arith)
+line-gives-none m Bad _ bad-length e = absurd (omega arith)
+line-gives-none m Bad _ bad-plan e = absurd (omega arith)
+line-gives-none m Bad _ no-room e = absurd (omega arith)

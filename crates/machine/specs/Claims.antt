@@ -45,10 +45,14 @@ CallNotSeven = (m : Machine) (c : Call) → Sound m → step m c .reply .status 
 abbrev pub LineNotSeven : Type 0
 LineNotSeven = (m : Machine) (l : Line) → Sound m → stepLine m l .reply .status ≡ 7 → ⊥
 
--- Refusals of what is no call of a line: the planner's 19, and 20 of the writer of call lines.
+-- Refusals of what is no call of a line: 13 of copy, 14 of copy and why, 17 of the depths and the planner, the planner's 19, and 20 of the
+-- writer of call lines.
 pub data OfNoLine : Refusal → Type 0 where
-  planners : OfNoLine Refusal.BadPlan
-  writers : OfNoLine Refusal.NoRoom
+  same-number : OfNoLine Refusal.SameNumber
+  no-such-place : OfNoLine Refusal.NoSuchPlace
+  bad-length : OfNoLine Refusal.BadLength
+  bad-plan : OfNoLine Refusal.BadPlan
+  no-room : OfNoLine Refusal.NoRoom
 
 -- On any machine no call and no line is answered with one of them.
 abbrev pub CallGivesNone : Type 0

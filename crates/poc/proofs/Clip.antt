@@ -53,11 +53,11 @@ leaves-previous p (c ∷ cs) r e kept = pick (isAccepted (step r c)) refl (leave
 -- ---- one sub-group
 
 -- n lies above v, and is at most p.
-record Upto (v p : ℕ) (n : ℤ) : Type 0 where
-  value : ℕ
-  is : n ≡ pos value
-  above : v < value
-  most : value ≤ p
+pub record Upto (v p : ℕ) (n : ℤ) : Type 0 where
+  pub value : ℕ
+  pub is : n ≡ pos value
+  pub above : v < value
+  pub most : value ≤ p
 
 module _ {L p : ℕ} {r : EvcPoc} {calls : List Call} (g : SubGroup L p r calls) where
   numbers-are : map numberOf (acceptedSteps r calls) ≡ pos p ∷ map numberOf (g .later)
@@ -101,7 +101,7 @@ numbers-append : (r : EvcPoc) (cs ds : List Call)
 numbers-append r cs ds = rw (accepted-append r cs ds) (map-append numberOf (acceptedSteps r cs) (acceptedSteps (leaves r cs) ds))
 
 -- every number of a clip lies above the previous number that it starts from
-clip-above : {r : EvcPoc} {calls : List Call} → Clip r calls → (n : ℤ) → List·Memᴰ n (map numberOf (acceptedSteps r calls))
+pub clip-above : {r : EvcPoc} {calls : List Call} → Clip r calls → (n : ℤ) → List·Memᴰ n (map numberOf (acceptedSteps r calls))
     → (p : ℕ) × Upto (r .«prev_poc_val») p n
 clip-above (ended none) n m = absurd (List·Memᴰ·not-nil (rw none at m))
 clip-above (group {r = r} {calls = calls} {rest = rest} L p g c) n m =
