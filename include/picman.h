@@ -298,11 +298,16 @@ uint8_t picman_plan(uint64_t count, uint64_t length, uint64_t interval, uint8_t 
  * it. Another record_len gives PICMAN_BAD, and nothing is written. */
 uint8_t picman_read_answer(const uint8_t *lines, size_t len, uint64_t at, uint8_t *record, size_t record_len);
 
-/* Writes the line of a call, newline last, at the front of target, and no byte behind it: 0. fields are the call byte and
- * its fields, without a check byte. The line has 2 * (fields_len + 1) + 1 bytes, PICMAN_LONGEST_LINE at most. PICMAN_BAD
- * where fields are no call, a put with flags over 15 too; then PICMAN_NO_ROOM where target is shorter than the line. Neither
- * writes anything. */
-uint8_t picman_write_call(const uint8_t *fields, size_t fields_len, uint8_t *target, size_t target_len);
+/* What the writer gives: the status in bits 0 to 7 (PICMAN_STATUS) and, where that is 0, the length of the line, newline
+ * counted, in the bits above. Under a refusal the length is 0. */
+typedef uint32_t picman_written;
+
+#define PICMAN_LENGTH(written) ((size_t)((written) >> 8))
+
+/* Writes the line of a call, newline last, at the front of target, and no byte behind it: 0 and the line's length,
+ * PICMAN_LONGEST_LINE at most. fields are the call byte and its fields, without a check byte. PICMAN_BAD where they are no
+ * call, a put with flags over 15 too; then PICMAN_NO_ROOM where target is shorter than the line. Neither writes anything. */
+picman_written picman_write_call(const uint8_t *fields, size_t fields_len, uint8_t *target, size_t target_len);
 
 #ifdef __cplusplus
 }

@@ -39,3 +39,9 @@ fn c_example() {
 fn c_why() {
     assert_eq!(printed("why"), ["0 0 0 0", "1 0 5 0", "2 14 255 255"]);
 }
+
+/// Status, length and line: written; no room.
+#[test]
+fn c_lines() {
+    assert_eq!(printed("lines"), ["0 5 02fe", "20 0 "]);
+}
