@@ -5,8 +5,9 @@
  *   3. The depth tables and the group planner.
  *   4. Answer lines read and call lines written.
  *
- * The library allocates nothing, calls nothing, keeps no pointer and has no state of its own. No pointer may be null, and
- * what a call writes may overlap nothing else that it is given. Two threads may not use one machine at once. */
+ * The library allocates nothing, keeps no pointer and has no state of its own. It calls memcpy and memset, which the
+ * compiler puts in, and nothing else. No pointer may be null, and what a call writes may overlap nothing else that it is
+ * given. Two threads may not use one machine at once. */
 #ifndef PICMAN_H
 #define PICMAN_H
 
@@ -17,7 +18,9 @@
 extern "C" {
 #endif
 
-/* What a call comes to. Under a refusal, 1 to 20 but 10 and 12, which are withdrawn and not used again, nothing has changed. */
+/* What a call comes to. The refusals are 1 to 20 but 10 and 12, which are withdrawn and not used again. Under a refusal no
+ * machine, image, reason, plan or record of derivations and no target of the writer has changed. Two things may be written
+ * all the same: the answer line of a call by bytes, and what picman_read_answer shows of a bad line. */
 enum picman_status {
     PICMAN_DONE = 0,
     PICMAN_SIZE_TOO_BIG = 1,
@@ -35,7 +38,7 @@ enum picman_status {
     PICMAN_BAD_LAYER = 15,
     PICMAN_BAD_RECORD = 16,
     PICMAN_BAD_LENGTH = 17,
-    PICMAN_BAD = 18,      /* a size, a flag byte or a call that does not fit */
+    PICMAN_BAD = 18,      /* a size, a flag byte or a call that does not fit; reading: no answer line */
     PICMAN_BAD_PLAN = 19, /* the planner alone */
     PICMAN_NO_ROOM = 20,  /* the writer of call lines alone */
     PICMAN_NOT_YET = 0x40, /* out: a picture is wanted and none is due */
@@ -57,20 +60,26 @@ enum picman_status {
 
 /* ---- 1. The running machine ------------------------------------------------------------------------------------------ */
 
-/* All zero is the new machine. Any bits may stand in it: every call ends, and where the state is not whole it gives
- * PICMAN_STATE_NOT_WHOLE and writes nothing. A state is whole when
+/* All zero is the new machine. Any bits may stand in it: every call ends, and a call that reads the state gives
+ * PICMAN_STATE_NOT_WHOLE where it is not whole, and leaves the machine as it was. The others are a derivation, which reads
+ * the record alone, a copy, which reads the lists alone, a reset and a load; and what is turned down with 18 is so before
+ * the state is read. A state is whole when
  *   - an empty slot is 0, a full one holds a number up to 2,147,483,647 and a buffer up to 26 that no other one and not the
  *     lease holds; the lease likewise;
  *   - max_pb_size is at most 27, max_num_ref_pics and both list counts at most 21;
  *   - cur_pb_size counts the full slots and cur_num_ref_pics the marked ones.
- * Calls keep it so. A program may read every field; it has no need to write one. (The last seven registers are bytes: a
- * number over 255 is read as 255, and a call that is not turned down with 7 or 18 may write it so.) */
+ * Calls keep it so. A program may read every field; it has no need to write one. (The last seven registers are counts of a
+ * byte: a number over 255 is read as 255, and a call that is not turned down may write it so.)
+ *
+ * A call that is turned down changes no bit. After an accepted one, but for a reset, three kinds of number are not fixed by
+ * what the library promises: the rows of buffers that neither a slot nor the lease holds (a copy keeps them); bits 9 to 31 of
+ * the entries' head words, in rows 27 and 28; and counts over 255, which may be written back as 255. */
 typedef struct picman_machine {
     /* Slot i: number << 16 | layer << 8 | buffer << 3 | wanted << 2 | marked << 1 | 1, and 0 where it is empty. */
     uint64_t keys[PICMAN_SLOTS];
-    /* Rows 0 to 26: the list numbers of the picture in buffer 0 to 26. 27 and 28: the 21 forward and the 21 backward
-     * entries, each 2 * buffer + 1, or 0 where there is none. 29 and 30: the entries' numbers. 31 to 51 and 52 to 72: the
-     * list numbers of each forward and of each backward entry. */
+    /* Rows 0 to 26: the list numbers of the picture in buffer 0 to 26. 27 and 28: the head words of the 21 forward and of
+     * the 21 backward entries, each 2 * buffer + flag, with flag 1 where the entry holds a picture and else 0. 29 and 30:
+     * the entries' numbers. 31 to 51 and 52 to 72: the list numbers of each forward and of each backward entry. */
     uint32_t rows[PICMAN_ROWS][PICMAN_PLACES];
     uint32_t registers[PICMAN_REGISTERS];
 } picman_machine;
@@ -129,8 +138,9 @@ enum picman_reason {
 };
 
 /* What the library defines: each array is a pointer and its length, 27, 1,533 and 13 (21 for list_poc, 8 for an answer's
- * bytes, 2 for a reason, 6,407 for an image). Where a length is another they give 18 (as an answer: status 18, no buffer, value 0) and write
- * nothing at all, an answer's bytes and an image neither. The functions below this block pass the lengths. */
+ * bytes, 2 for a reason, 6,407 for an image). Where a length is another they give 18 (as an answer: status 18, no buffer,
+ * value 0) and write nothing at all, an answer's bytes and an image neither. The functions below this block pass the
+ * lengths. */
 uint8_t picman_machine_new(uint64_t *keys, size_t keys_len, uint32_t *rows, size_t rows_len, uint32_t *registers,
                            size_t registers_len);
 picman_answer picman_machine_init(uint64_t *keys, size_t keys_len, uint32_t *rows, size_t rows_len, uint32_t *registers,
@@ -166,12 +176,12 @@ uint8_t picman_machine_why(const uint64_t *keys, size_t keys_len, const uint32_t
 /* The new machine, whatever stood there: 0. It is all zero, so a machine may also begin as `picman_machine m = {0};`. */
 static inline uint8_t picman_reset(picman_machine *m) { return picman_machine_new(PICMAN_PARTS(m)); }
 
-/* Sets the limits of the store and its references, and gives up the lease; 1 where they are over 27 and 21. */
+/* Sets the limits of the store and its references, and gives up the lease; 1 where the one is over 27 or the other over 21. */
 static inline picman_answer picman_init(picman_machine *m, uint8_t max_pb_size, uint8_t max_num_ref_pics) {
     return picman_machine_init(PICMAN_PARTS(m), max_pb_size, max_num_ref_pics);
 }
 
-/* Leases an empty picture: its buffer, and the number that it had. */
+/* Leases a picture, the idle one in the lowest slot as it is, else a new one with number 0: its buffer and number. */
 static inline picman_answer picman_get(picman_machine *m) { return picman_machine_get(PICMAN_PARTS(m)); }
 
 /* Marks, and puts the leased picture into the store (without PICMAN_NO_PICTURE): its buffer and number. Flags over 15 are
@@ -207,7 +217,8 @@ static inline uint8_t picman_copy(picman_machine *m, uint64_t cnt, uint64_t lidx
 
 /* One call from the bytes of a call line, check byte too, not in hex. Writes the 8 bytes of the answer line (the call's byte,
  * 0 for a bad call; the status; the buffer number, 0xff where there is none; the value, 4 bytes, highest first; and the check
- * byte, which makes the sum of all eight 0), always, and gives its status; bytes that are no call are answered as a bad line is, 18, and the machine stays as it was. */
+ * byte, which makes the sum of all eight 0), always, and gives its status; bytes that are no call are answered as a bad line
+ * is, 18, and the machine stays as it was. */
 static inline uint8_t picman_call_bytes(picman_machine *m, const uint8_t *call, size_t call_len,
                                         uint8_t answer[PICMAN_ANSWER]) {
     return picman_machine_call(PICMAN_PARTS(m), call, call_len, answer, PICMAN_ANSWER);
@@ -222,7 +233,7 @@ static inline uint8_t picman_why_bytes(const picman_machine *m, const uint8_t *c
 }
 
 /* The machine of an image: 0. Where a flag byte of the image is neither 0 nor 1 it gives 18, and where the image's state is
- * not whole 7; the machine then stays as it was. Rows of buffers that no picture of the image is in keep what they held. */
+ * not whole 7; the machine then stays as it was. Rows of buffers that no picture of the image is in are left open, as above. */
 static inline uint8_t picman_load(picman_machine *m, const uint8_t image[PICMAN_IMAGE]) {
     return picman_machine_load(PICMAN_PARTS(m), image, PICMAN_IMAGE);
 }
@@ -237,11 +248,11 @@ static inline uint8_t picman_save(const picman_machine *m, uint8_t image[PICMAN_
 /* An image holds a machine, big-endian: 27 slots and then the lease, 93 bytes each (present, buffer number, is_ref,
  * need_for_out, temporal_id, poc 4, list_poc 21 x 4); max_pb_size, max_num_ref_pics, cur_pb_size, cur_num_ref_pics,
  * num_refp[0], num_refp[1], poc_next_output 4, poc_increase; 42 list entries, forward first, 90 bytes each (present, buffer
- * number, poc 4, list_poc 21 x 4); poc_val 4, prev_poc_val 4, prev_doc_offset 4. Unlike the running machine it can also say
- * states that are not whole.
+ * number, poc 4, list_poc 21 x 4); poc_val 4, prev_poc_val 4, prev_doc_offset 4. It can also say states that keys cannot, none
+ * of them whole, such as an empty slot with list numbers.
  *
- * picman_new, picman_call, picman_copy_refp and picman_why are what the library defines; picman_image_* pass the lengths. Calls on an
- * image convert it both ways: they are for comparison, not for speed. */
+ * picman_new, picman_call, picman_copy_refp and picman_why are what the library defines; picman_image_* pass the lengths.
+ * Calls on an image convert it both ways: they are for comparison, not for speed. */
 uint8_t picman_new(uint8_t *image, size_t len);
 uint8_t picman_call(uint8_t *image, size_t len, const uint8_t *call, size_t call_len, uint8_t *answer, size_t answer_len);
 uint8_t picman_copy_refp(uint8_t *image, size_t len, uint64_t cnt, uint64_t lidx, const uint8_t *entry, size_t entry_len);
@@ -279,30 +290,41 @@ static inline uint8_t picman_image_why(const uint8_t image[PICMAN_IMAGE], const 
 uint8_t picman_slice_depth(uint64_t length, uint64_t position);
 uint8_t picman_slice_depth_p(uint64_t length, uint64_t position);
 
-/* Plans one picture: 0, or 17 for a length other than 2, 4, 8 and 16, then 19 for a bad plan (inter neither 2 nor 3, a
- * count over 2,147,483,647, or without the hierarchy a count below the length that is neither 0 nor a key picture), then
- * 16 or 6 where a number is derived. interval is the key interval, 0 for none; inter the slice type between, 2 for P and
- * 3 for B; hierarchy 0 or 1. record, big-endian (poc_val 4, prev_poc_val 4, prev_doc_offset 4), is read and written; plan
- * gets slice type, depth, reference flag and number 4. 18 where a length is another than PICMAN_RECORD or PICMAN_PLAN, or
- * hierarchy is neither 0 nor 1. A refusal writes nothing. */
+/* Plans one picture: 0, or 18 where record_len is another than PICMAN_RECORD, plan_len another than PICMAN_PLAN, or hierarchy
+ * neither 0 nor 1, then 17 for a length other than 2, 4, 8 and 16, then 19 for a bad plan (inter neither 2 nor 3, a count
+ * over 2,147,483,647, or without the hierarchy a count below the length that is neither 0 nor a key picture), then 16 or 6
+ * where a number is derived. interval is the key interval, 0 for none; inter the slice type between, 2 for P and 3 for B.
+ * record, big-endian (poc_val 4, prev_poc_val 4, prev_doc_offset 4), is read and written; plan gets slice type, depth,
+ * reference flag and number 4. A refusal writes nothing. */
 uint8_t picman_plan(uint64_t count, uint64_t length, uint64_t interval, uint8_t inter, uint8_t hierarchy,
                     uint8_t *record, size_t record_len, uint8_t *plan, size_t plan_len);
 
 /* ---- 4. Answer lines read and call lines written ---------------------------------------------------------------------- */
 
-/* What stands at a place, counted from 0, of a buffer of answer lines. Begin at 0 and go on at the place that was written:
- * that gives every line, in order. 0 where the line that begins there is an answer, any eight bytes that sum to zero in
- * lower-case hex; PICMAN_BAD where it is none; PICMAN_NO_MORE at the end or past it. record, of PICMAN_READ bytes, gets the
- * seven field bytes (call, status, buffer number, value 4), zero where there is no answer, and then the next place, behind
- * the next newline or at the end, 8 bytes big-endian. A newline ends a line and nothing else does; the last line may lack
- * it. Another record_len gives PICMAN_BAD, and nothing is written. */
+/* What the library defines; picman_read passes record's length. Where record_len is another than PICMAN_READ it gives
+ * PICMAN_BAD and writes nothing, so that going on at the place in record would never end. */
 uint8_t picman_read_answer(const uint8_t *lines, size_t len, uint64_t at, uint8_t *record, size_t record_len);
 
-/* Writes the line of a call, newline last, at the front of target, and no byte behind it: 0. fields are the call byte and
- * its fields, without a check byte. The line has 2 * (fields_len + 1) + 1 bytes, PICMAN_LONGEST_LINE at most. PICMAN_BAD
- * where fields are no call, a put with flags over 15 too; then PICMAN_NO_ROOM where target is shorter than the line. Neither
- * writes anything. */
-uint8_t picman_write_call(const uint8_t *fields, size_t fields_len, uint8_t *target, size_t target_len);
+/* What stands at a place, counted from 0, of a buffer of answer lines. Begin at 0 and go on at the place that was written:
+ * that gives every line, in order. 0 where the line that begins there is an answer, any eight bytes that sum to zero in
+ * lower-case hex; PICMAN_BAD where it is none; PICMAN_NO_MORE at the end or past it. record is written in all three cases:
+ * the seven field bytes (call, status, buffer number, value 4), zero where there is no answer, and then the next place, 8
+ * bytes big-endian: behind the newline that ends the line, the end of the buffer where none does, and `at` itself where there
+ * is no more. A newline ends a line and nothing else does; the last line may lack it. */
+static inline uint8_t picman_read(const uint8_t *lines, size_t len, uint64_t at, uint8_t record[PICMAN_READ]) {
+    return picman_read_answer(lines, len, at, record, PICMAN_READ);
+}
+
+/* What the writer gives: the status in bits 0 to 7 (PICMAN_STATUS) and, where that is 0, the length of the line, newline
+ * counted, in the bits above. Under a refusal the length is 0. */
+typedef uint32_t picman_written;
+
+#define PICMAN_LENGTH(written) ((size_t)((written) >> 8))
+
+/* Writes the line of a call, newline last, at the front of target, and no byte behind it: 0 and the line's length,
+ * PICMAN_LONGEST_LINE at most. fields are the call byte and its fields, without a check byte. PICMAN_BAD where they are no
+ * call, a put with flags over 15 too; then PICMAN_NO_ROOM where target is shorter than the line. Neither writes anything. */
+picman_written picman_write_call(const uint8_t *fields, size_t fields_len, uint8_t *target, size_t target_len);
 
 #ifdef __cplusplus
 }

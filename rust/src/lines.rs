@@ -16,7 +16,7 @@ mod library {
     extern "C" {
         pub fn picman_read_answer(lines: *const u8, len: usize, at: u64, record: *mut u8, record_len: usize)
             -> u8;
-        pub fn picman_write_call(fields: *const u8, fields_len: usize, target: *mut u8, target_len: usize) -> u8;
+        pub fn picman_write_call(fields: *const u8, fields_len: usize, target: *mut u8, target_len: usize) -> u32;
     }
 }
 
@@ -86,8 +86,10 @@ impl std::iter::FusedIterator for Answers<'_> {}
 /// where there is no room; neither writes anything.
 pub fn write_call(fields: &[u8], target: &mut [u8]) -> Result<usize, u8> {
     // As above.
-    match unsafe { library::picman_write_call(fields.as_ptr(), fields.len(), target.as_mut_ptr(), target.len()) } {
-        0 => Ok(2 * (fields.len() + 1) + 1),
+    let given =
+        unsafe { library::picman_write_call(fields.as_ptr(), fields.len(), target.as_mut_ptr(), target.len()) };
+    match given as u8 {
+        0 => Ok((given >> 8) as usize),
         refusal => Err(refusal),
     }
 }

@@ -116,7 +116,8 @@ mod library {
 }
 
 /// The running machine, 6,400 bytes. All zero is the new one. Any bits may stand in it: every call ends, and where the state
-/// is not whole it gives 7 and changes nothing. `include/picman.h` says when a state is whole; calls keep it so.
+/// is not whole a call that reads it gives 7 and changes nothing; [`Machine::derive`] and [`Machine::copy`] do not read it.
+/// `include/picman.h` says when a state is whole, and which numbers an accepted call leaves open. Calls keep a state whole.
 #[derive(Clone, Debug, PartialEq, Eq)]
 #[repr(C)]
 pub struct Machine {
@@ -212,7 +213,7 @@ impl Machine {
         Answer::new(ask!(self.picman_machine_init(max_pb_size, max_num_ref_pics)))
     }
 
-    /// Leases an empty picture.
+    /// Leases a picture: the idle one in the lowest slot as it is, else a new one with number 0.
     pub fn get(&mut self) -> Answer {
         Answer::new(ask!(self.picman_machine_get()))
     }
@@ -240,12 +241,14 @@ impl Machine {
         Answer::new(ask!(self.picman_machine_lists(slice_type, poc, layer_id, last_intra, max_num_ref_pics)))
     }
 
-    /// Derives the number of the next picture of a layer in a group of 2^`log2_sub_gop_length`.
+    /// Derives the number of the next picture of a layer in a group of 2^`log2_sub_gop_length`. It has to do with the record
+    /// alone, so it also works where the state is not whole.
     pub fn derive(&mut self, log2_sub_gop_length: u8, tid: u8) -> Answer {
         Answer::new(ask!(self.picman_machine_derive(log2_sub_gop_length, tid)))
     }
 
-    /// Writes an entry at place `cnt` of list `lidx`; refusal 13 or 14.
+    /// Writes an entry at place `cnt` of list `lidx`; refusal 13 or 14. It has to do with the lists alone, so it also works
+    /// where the state is not whole.
     pub fn copy(&mut self, cnt: u64, lidx: u64, entry: &Entry) -> Result<(), u8> {
         done(unsafe {
             library::picman_machine_copy(

@@ -39,3 +39,12 @@ fn c_example() {
 fn c_why() {
     assert_eq!(printed("why"), ["0 0 0 0", "1 0 5 0", "2 14 255 255"]);
 }
+
+/// Status, length and line: written; no room. Status, place and call: an answer, a bad line, an answer, no more.
+#[test]
+fn c_lines() {
+    let read = ["0 at 0: call 1", "18 at 17: call 0", "0 at 19: call 4", "65 at 35: call 0"];
+    let printed = printed("lines");
+    assert_eq!(printed[..2], ["0 5 02fe", "20 0 "]);
+    assert_eq!(printed[2..], read);
+}

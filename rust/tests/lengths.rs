@@ -1,5 +1,5 @@
-//! The C functions with lengths that do not fit: 18, and nothing is written. The types of the crate leave no way to that, so
-//! they are declared here.
+//! The C functions with lengths that do not fit: 18, or 20 of the writer, and nothing is written. The types of the crate leave
+//! no way to most of it, so they are declared here.
 
 use picman::{ANSWER, BAD, ENTRY, IMAGE, PLAN, RECORD};
 
@@ -22,6 +22,7 @@ extern "C" {
         pn: usize,
     ) -> u8;
     fn picman_read_answer(lines: *const u8, n: usize, at: u64, record: *mut u8, rn: usize) -> u8;
+    fn picman_write_call(fields: *const u8, n: usize, target: *mut u8, tn: usize) -> u32;
     fn picman_machine_new(k: *mut u64, kn: usize, w: *mut u32, wn: usize, r: *mut u32, rn: usize) -> u8;
     fn picman_machine_init(
         k: *mut u64,
@@ -315,5 +316,19 @@ fn records_of_a_reading() {
         let status = unsafe { picman_read_answer(line.as_ptr(), line.len(), 0, record.as_mut_ptr(), len) };
         assert_eq!(status, BAD, "{len}");
         assert_eq!(record, [0xa5; 32], "{len}");
+    }
+}
+
+/// The length stands above the status, and under a refusal there is none.
+#[test]
+fn numbers_of_a_writing() {
+    let get = [2];
+    let given = [20, 20, 20, 20, 20, 5 << 8, 5 << 8, 5 << 8];
+    for (room, expected) in given.into_iter().enumerate() {
+        let mut target = [0xa5; 8];
+        let number = unsafe { picman_write_call(get.as_ptr(), 1, target.as_mut_ptr(), room) };
+        assert_eq!(number, expected, "{room}");
+        assert_eq!(&target, if room < 5 { &[0xa5; 8] } else { b"02fe\n\xa5\xa5\xa5" });
+        assert_eq!(unsafe { picman_write_call(get.as_ptr(), 0, target.as_mut_ptr(), room) }, u32::from(BAD));
     }
 }

@@ -18,8 +18,9 @@ use Rattle.reader.specs.Reading.{answerAt, afterLine}
 use Rattle.writer.specs.declared.Written.{Written}
 use Rattle.writer.specs.Writing.{written}
 use Rattle.writer.proofs.Claims.{refused-unwritten}
-use Rattle.lent_lines.specs.LentLines.{recordOf, recordLength, readOut, writtenStatus, wroteOut}
-use Rattle.lent_lines.specs.Claims.{placeIn, PlaceShown, RefusedLeaves}
+use Rattle.lent_lines.specs.LentLines.{recordOf, recordLength, readOut, writtenStatus, writtenLength, wroteOut}
+use Rattle.lent_lines.specs.Claims.{placeIn, PlaceShown, StatusTold, LengthTold, LengthShort, RefusedLeaves}
+use Rattle.lent_lines.proofs.Sizes.{status-small, length-small}
 
 -- Eight bytes stand for the number that they were made of.
 high-low : (n : ℕ) → n < 2 ^ 64 → n / 4294967296 * 4294967296 + n % 4294967296 ≡ n
@@ -82,9 +83,27 @@ unfolding readOut
 place-shown lines at record-bytes h k e =
     rw (eq-eqb (length record-bytes) recordLength e) (shown (answerAt lines at) (afterLine lines at) (next-fits lines at h k))
 
+-- A status takes eight bits, so that what stands above it does not show in it, nor it there.
+in-low-bits : (n s : ℕ) → s ≤ 20 → (n * 256 + s) % 256 ≡ s
+in-low-bits n s h = omega arith
+
+in-high-bits : (n s : ℕ) → s ≤ 20 → (n * 256 + s) / 256 ≡ n
+in-high-bits n s h = omega arith
+
+pub status-told : StatusTold
+unfolding wroteOut
+status-told fields target = let w = written fields target .given in in-low-bits (writtenLength w) (writtenStatus w) (status-small w)
+
+pub length-told : LengthTold
+unfolding wroteOut
+length-told fields target = let w = written fields target .given in in-high-bits (writtenLength w) (writtenStatus w) (status-small w)
+
+pub length-short : LengthShort
+length-short fields target = rw (length-told fields target) (length-small fields target)
+
 pub refused-leaves : RefusedLeaves
 unfolding wroteOut
-refused-leaves fields target h = by (written fields target .given) refl h
+refused-leaves fields target h = by (written fields target .given) refl (rw (status-told fields target) at h)
   where
     by : (w : Written) → written fields target .given ≡ w → 1 ≤ writtenStatus w → written fields target .target ≡ target
     by (Written.Line n) e k = absurd (omega arith)

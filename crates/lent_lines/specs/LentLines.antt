@@ -1,7 +1,7 @@
 -- `read_record` and `write_line`, and so `picman_read_answer` and `picman_write_call` of the library: what they give, and the lent buffer as they
 -- leave it.
 -- Assumes nothing.
-use Prim.Native.Nat.{ℕ, _/_, _%_}
+use Prim.Native.Nat.{ℕ, _+_, _*_, _/_, _%_}
 use mathlib.Core.Bool.{cond}
 use mathlib.Core.List.{List, [], _∷_, _++_}
 use lib.Dec.{eqb}
@@ -62,6 +62,15 @@ abbrev pub writtenStatus : Written → ℕ
 writtenStatus (Written.Line n) = 0
 writtenStatus (Written.Refused why) = refusalNumber why
 
+-- How long the line is, its newline counted; 0 under a refusal.
+abbrev pub writtenLength : Written → ℕ
+writtenLength (Written.Line n) = n
+writtenLength (Written.Refused why) = 0
+
+-- Both as one number: the status in bits 0 to 7, the length in the bits above.
+abbrev pub writtenWord : Written → ℕ
+writtenWord w = writtenLength w * 256 + writtenStatus w
+
 unfoldable pub wroteOut : List ℕ → List ℕ → LentOut
 unfolding written
-wroteOut fields target = lentOut (writtenStatus (written fields target .given)) (written fields target .target)
+wroteOut fields target = lentOut (writtenWord (written fields target .given)) (written fields target .target)

@@ -13,7 +13,7 @@ use writer::Written;
 use writer::write_fields;
 ghost use mathlib.Core.Path.{_≡_};
 ghost use Rattle.lent_lines.specs.LentLines.{lentOut, noReply, placeRecord, recordOf, readStatus, readOut};
-ghost use Rattle.lent_lines.specs.LentLines.{writtenStatus, wroteOut};
+ghost use Rattle.lent_lines.specs.LentLines.{writtenStatus, writtenLength, wroteOut};
 
 const RECORD_LENGTH: usize = 15;
 
@@ -98,11 +98,20 @@ fn written_status(written: Written) -> u8
     }
 }
 
-// Writes the line of a call, newline last, at the front of a buffer: 0; 18 where these are no call byte with its fields, and 20 where there is
-// no room.
-pub fn write_line(fields: &[u8], target: &mut [u8]) -> u8
+fn written_length(written: Written) -> usize
+    ensures { λ r. ⌜ r ≡ writtenLength written ⌝ }
+{
+    match written {
+        Written::Line(n) => n,
+        Written::Refused(_) => 0,
+    }
+}
+
+// Writes the line of a call, newline last, at the front of a buffer. Gives the line's length, newline counted, above a status of 0; 18 where
+// these are no call byte with its fields, and 20 where there is no room.
+pub fn write_line(fields: &[u8], target: &mut [u8]) -> u32
     ensures { λ r. ⌜ lentOut r (now (target .exit)) ≡ wroteOut (now (fields .entry)) (now (target .entry)) ⌝ }
 {
     let written = write_fields(fields, target);
-    written_status(written)
+    written_length(written) as u32 * 256 + written_status(written) as u32
 }

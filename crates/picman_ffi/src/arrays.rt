@@ -59,7 +59,7 @@ pub extern "C" fn picman_machine_init(
     )
 }
 
-// Leases an empty picture.
+// Leases a picture: the idle one in the lowest slot, else a new one.
 #[no_mangle]
 pub extern "C" fn picman_machine_get(
     keys: &mut [u64],

@@ -12,9 +12,9 @@ pub extern "C" fn picman_read_answer(lines: &[u8], at: u64, out: &mut [u8]) -> u
     read_record(lines, at, out)
 }
 
-// Writes the line of a call, newline last, at the front of a buffer.
+// Writes the line of a call, newline last, at the front of a buffer: the status in bits 0 to 7, the line's length in the bits above.
 #[no_mangle]
-pub extern "C" fn picman_write_call(fields: &[u8], target: &mut [u8]) -> u8
+pub extern "C" fn picman_write_call(fields: &[u8], target: &mut [u8]) -> u32
     ensures { λ r. ⌜ lentOut r (now (target .exit)) ≡ wroteOut (now (fields .entry)) (now (target .entry)) ⌝ }
 {
     write_line(fields, target)
