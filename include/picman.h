@@ -71,9 +71,10 @@ enum picman_status {
  * Calls keep it so. A program may read every field; it has no need to write one. (The last seven registers are counts of a
  * byte: a number over 255 is read as 255, and a call that is not turned down may write it so.)
  *
- * A call that is turned down changes no bit. After an accepted one, but for a reset, three kinds of number are not fixed by
- * what the library promises: the rows of buffers that neither a slot nor the lease holds (a copy keeps them); bits 9 to 31 of
- * the entries' head words, in rows 27 and 28; and counts over 255, which may be written back as 255. */
+ * A call that is turned down changes no bit. An accepted one keeps every row of a buffer but that of the picture in its
+ * answer, and unless it is a list call every row of the lists; a copy writes its entry and nothing else. What the library's
+ * promise leaves open: after a list call and a load, bits 9 to 31 of the entries' head words, in rows 27 and 28; after a load
+ * the rows of buffers that no picture of the image is in; and counts over 255, which a call may write back as 255. */
 typedef struct picman_machine {
     /* Slot i: number << 16 | layer << 8 | buffer << 3 | wanted << 2 | marked << 1 | 1, and 0 where it is empty. */
     uint64_t keys[PICMAN_SLOTS];
@@ -233,7 +234,7 @@ static inline uint8_t picman_why_bytes(const picman_machine *m, const uint8_t *c
 }
 
 /* The machine of an image: 0. Where a flag byte of the image is neither 0 nor 1 it gives 18, and where the image's state is
- * not whole 7; the machine then stays as it was. Rows of buffers that no picture of the image is in are left open, as above. */
+ * not whole 7; the machine then stays as it was. Rows of buffers that no picture of the image is in are left open. */
 static inline uint8_t picman_load(picman_machine *m, const uint8_t image[PICMAN_IMAGE]) {
     return picman_machine_load(PICMAN_PARTS(m), image, PICMAN_IMAGE);
 }
