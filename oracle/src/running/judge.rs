@@ -2,7 +2,7 @@
 
 use super::coverage::RunningCoverage;
 use super::library::{answer_bits, OursRunning};
-use super::{rules, Running};
+use super::{rules, Running, PLACES, ROWS, SLOTS};
 use crate::call::{Answer, Call, Outcome, Reply, BAD_LINE};
 use crate::image::{Entry, Image, Machine, ENTRY_BYTES, IMAGE_BYTES};
 use crate::papers;
@@ -226,14 +226,14 @@ impl RunningJudge {
         if found != expected {
             return Err(format!("running machine: by numbers {found:016x}, expected {expected:016x}"));
         }
-        self.any_left(arrays, &mut running, &machine, &outcome)?;
+        self.any_left(arrays, &mut running, &machine, &outcome, reply)?;
 
         let (mut running, mut answer) = (Box::new(arrays.clone()), [0xaa; 8]);
         let status = self.ours.by_bytes(running.lent(), &call.bytes(), &mut answer);
         if status != reply.status || answer != reply.bytes() {
             return Err(format!("running machine: by bytes {status}, {answer:02x?}, expected {reply:?}"));
         }
-        self.any_left(arrays, &mut running, &machine, &outcome)
+        self.any_left(arrays, &mut running, &machine, &outcome, reply)
     }
 
     fn any_left(
@@ -242,6 +242,7 @@ impl RunningJudge {
         after: &mut Running,
         machine: &Machine,
         outcome: &Outcome,
+        reply: Reply,
     ) -> Result<(), String> {
         match outcome {
             Ok(Answer::Number(_)) => {
@@ -252,9 +253,8 @@ impl RunningJudge {
             Ok(_) if after.stands() != *machine => {
                 return Err("running machine: the arrays do not stand for what the call leaves".to_string());
             }
-            Ok(_) => {}
-            Err(7 | BAD_LINE) => unchanged("a call turned down", before, after)?,
-            Err(_) => as_read("a call turned down", before, after)?,
+            Ok(_) => other_rows_stay(reply, before, after)?,
+            Err(_) => unchanged("a call turned down", before, after)?,
         }
         if !rules::whole(before) {
             return self.save_refused(after);
@@ -263,6 +263,18 @@ impl RunningJudge {
         machine.encode(&mut image);
         self.saved(after, &image)
     }
+}
+
+/// Every row of a buffer but that of the picture shown, and but under a list call the rows of the lists.
+fn other_rows_stay(reply: Reply, before: &Running, after: &Running) -> Result<(), String> {
+    let kept = if reply.code == 5 { SLOTS } else { ROWS / PLACES };
+    for row in (0..kept).filter(|row| *row != usize::from(reply.buf)) {
+        let numbers = PLACES * row..PLACES * (row + 1);
+        if before.rows[numbers.clone()] != after.rows[numbers] {
+            return Err(format!("running machine: call {} leaves other numbers in row {row}", reply.code));
+        }
+    }
+    Ok(())
 }
 
 /// Every bit of the three arrays, but that counts may have been written as they are read.
