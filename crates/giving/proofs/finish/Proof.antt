@@ -6,7 +6,7 @@ use Rattle.giving.proofs.finish.Tie as tie
 
 -- where the last line was run
 abbrev at-end : tie.After-give-arg → tie.After-run-end
-at-end c = let rows-back = c .before .before .before in rows-back .before .before .before .before
+at-end c = let rows-back = c .before .before .before .before in rows-back .before .before .before .before
 
 run-end-requires : tie.Need-run-end-requires
 run-end-requires c κs = search needs

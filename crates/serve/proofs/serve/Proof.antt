@@ -34,7 +34,11 @@ returns c =
     let done = c .before .before .before .before in
     let started = done .before .before .before .before .before .before in
     record {
-      session = _; keys′ = _; rows′ = _; piece′ = _; out′ = _;
+      session = _;
+      keys′ = _;
+      rows′ = _;
+      piece′ = _;
+      out′ = _;
       new = started .new-session .ensures;
       served = done .serve-lines .ensures;
     }
