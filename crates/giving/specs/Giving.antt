@@ -22,9 +22,9 @@ pub data Given : Handed → Handed → Went → Type 0 where
   failed : {meant : Handed} {otherwise : Went}
       → Given (record { session = meant .session; heard = meant .heard; written = meant .written; went = otherwise }) meant otherwise
 
--- At the end of the input: the answer to a last line that lacks its newline stands at the front of `out`.
-pub record Finished (keys rows : List ℕ) (last : Handed) (out : List ℕ) (t : Handed) (out′ : List ℕ) : Type 0 where
-  pub ended : EndedOver keys rows (last .session) out (t .written) out′
-  pub same-session : t .session ≡ last .session
+-- At the end of the input: the answer to a last line that lacks its newline stands at the front of `out`, and the session is the one after
+-- that line.
+pub record Finished (keys rows : List ℕ) (last : Handed) (out : List ℕ) (t : Handed) (keys′ rows′ out′ : List ℕ) : Type 0 where
+  pub ended : EndedOver keys rows (last .session) out (record { session = t .session; len = t .written }) keys′ rows′ out′
   pub same-heard : t .heard ≡ last .heard
   pub at-end : isFinal (t .went) ≡ true

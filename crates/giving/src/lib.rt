@@ -17,7 +17,8 @@ pub enum Went {
     LastWriteFailed,
 }
 
-// The session after a turn, what its read answered, how many bytes at the front of `out` were given to be written, and how it went.
+// The session after a turn or after the last line, what the last read answered, how many bytes at the front of `out` were given to be
+// written, and how it went.
 pub struct Handed {
     pub session: Session,
     pub heard: Heard,
@@ -55,15 +56,18 @@ pub fn finish(
     out: &mut [u8],
 ) -> Handed
     requires { ⌜ EndRoom (now keys) (now rows) (last .session) (now tables) (now out) ⌝ }
-    ensures { λ r. ⌜ Finished (now (keys .entry)) (now (rows .entry)) last (now (out .entry)) r (now (out .exit)) ⌝ }
+    ensures { λ r.
+        ⌜ Finished (now (keys .entry)) (now (rows .entry)) last (now (out .entry))
+        r (now (keys .exit)) (now (rows .exit)) (now (out .exit)) ⌝ }
 {
     let session = last.session;
     let heard = last.heard;
-    let written = run_end(keys, rows, session, tables, out);
+    let ran = run_end(keys, rows, session, tables, out);
+    let left = ran.session;
     let handed = Handed {
-        session,
+        session: left,
         heard,
-        written,
+        written: ran.len,
         went: Went::InputEnded,
     };
     give(output, out, handed, Went::LastWriteFailed)

@@ -99,9 +99,9 @@ serve-begins s t keys′ rows′ piece′ out′ new l later =
     let b = turns-agree (l .turns) start (new-alike s new) in
     let f = feed (feed start input .runner) later in
     record {
-      rest = f .written ++ finish (f .runner);
+      rest = f .written ++ finish (f .runner) .written;
       is =
-          rw (b .wrote) (sym (append-assoc (feed start input .written) (f .written) (finish (f .runner)))
-          ∙ sym (ap (λ (g : Fed). g .written ++ finish (g .runner)) (feed-append start input later))
+          rw (b .wrote) (sym (append-assoc (feed start input .written) (f .written) (finish (f .runner) .written))
+          ∙ sym (ap (λ (g : Fed). g .written ++ finish (g .runner) .written) (feed-append start input later))
           ∙ feed-answers start (input ++ later));
     }

@@ -12,7 +12,7 @@ use Rattle.line.specs.Lines.{isNewline}
 use Rattle.machine.specs.Claims.{Sound}
 use Rattle.machine.proofs.EveryCall.{line-sound, new-sound, line-not-seven}
 use Rattle.run.specs.declared.Session.{Session}
-use Rattle.run.specs.Run.{Runner, endLine, extendLine, feed, feedPieces, finish, start}
+use Rattle.run.specs.Run.{Runner, Fed, endLine, extendLine, feed, feedPieces, finish, start}
 use Rattle.run.specs.Session.{runnerIn, NewSession, newKeys, newRows}
 use Rattle.run.specs.Claims.{Over, at-end, after-piece, RunWrites, RunSound, RunNotSeven}
 use Rattle.run.specs.Partial.{keptLength}
@@ -27,9 +27,9 @@ front out w rest n e l = rw (l, e) (take-append-seam w rest)
 
 -- From any run that keeps the same of its line as the session does.
 over-writes : {keys rows written : List ℕ} {s : Session} {pieces : List (List ℕ)} → Over keys rows s pieces written
-    → (r : Runner) → Alike (runnerIn keys rows s) r → written ≡ feedPieces r pieces .written ++ finish (feedPieces r pieces .runner)
+    → (r : Runner) → Alike (runnerIn keys rows s) r → written ≡ feedPieces r pieces .written ++ finish (feedPieces r pieces .runner) .written
 unfolding feedPieces
-over-writes (at-end {out′ = out′} {n = n} e) r a = front out′ _ _ n (e .written) (e .length-is) ∙ finish-alike a
+over-writes (at-end {out′ = out′} {r = ran} e) r a = front out′ _ _ (ran .len) (e .written) (e .length-is) ∙ ap (λ (f : Fed). f .written) (finish-alike a)
 over-writes {keys} {rows} {s = s} (after-piece {piece = piece} {pieces} {out′ = out′} {rest} {r = ran} e more) r a =
     let n = feed-alike piece a in
     let wrote : take (ran .len) out′ ≡ feed r piece .written = front out′ _ _ (ran .len) (e .written) (e .length-is) ∙ n .written in
@@ -42,7 +42,7 @@ over-writes {keys} {rows} {s = s} (after-piece {piece = piece} {pieces} {out′ 
     } in
     let later = over-writes more (feed r piece .runner) next in
     rw (wrote, later)
-    (sym (append-assoc (feed r piece .written) (feedPieces (feed r piece .runner) pieces .written) (finish (feedPieces (feed r piece .runner) pieces .runner))))
+    (sym (append-assoc (feed r piece .written) (feedPieces (feed r piece .runner) pieces .written) (finish (feedPieces (feed r piece .runner) pieces .runner) .written)))
 
 pub new-alike : (s : Session) → NewSession s → Alike (runnerIn newKeys newRows s) start
 new-alike s new = record {

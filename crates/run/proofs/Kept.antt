@@ -9,11 +9,11 @@ use lib.Dec.{eqb}
 use lib.ListN.{take}
 use Rattle.line.specs.Calls.{readLine}
 use Rattle.line.specs.Answers.{answerLine}
-use Rattle.line.specs.Lines.{newline, lastLine}
+use Rattle.line.specs.Lines.{newline}
 use Rattle.line.specs.declared.Line.{Line}
 use Rattle.machine.specs.declared.Machine.{Machine}
 use Rattle.machine.specs.Step.{stepLine}
-use Rattle.run.specs.Run.{Runner, Fed, answersTo, endLine, extendLine, feedByte, feed, finish}
+use Rattle.run.specs.Run.{Runner, Fed, endLine, extendLine, feedByte, feed, lackedNewline, finish}
 use Rattle.run.specs.Partial.{keptLength}
 use Rattle.run.proofs.PartialLaws.{kept-reads}
 
@@ -79,11 +79,11 @@ feed-alike {r} {s} (c ∷ cs) a =
     record { runners = f .runners; written = join (n .written) (f .written) }
 
 pub finish-alike : {r s : Runner} → Alike r s → finish r ≡ finish s
-unfolding answersTo
+unfolding feed
 finish-alike {r} {s} a = rw (a .machines) (by (r .line) (s .line) (a .lines) (alike-reads a))
   where
     by : (l k : List ℕ) → take keptLength l ≡ take keptLength k → readLine l ≡ readLine k
-        → answersTo (s .machine) (lastLine l) ≡ answersTo (s .machine) (lastLine k)
+        → feed (record { machine = s .machine; line = l }) (lackedNewline l) ≡ feed (record { machine = s .machine; line = k }) (lackedNewline k)
     by [] [] e f = refl
     by [] (c ∷ cs) e f = absurd (let z : _≡_ {A = ℕ} 0 1 = cc in omega arith)
     by (c ∷ cs) [] e f = absurd (let z : _≡_ {A = ℕ} 0 1 = cc in omega arith)

@@ -14,7 +14,8 @@ use Rattle.run.specs.Session.{NewSession, newKeys, newRows, RanOver, End
 -- A run of the code: `run_piece` over each piece in turn, each call on the arrays and the session that the one before left, and `run_end`
 -- after the last. What it wrote is, of each call, as many bytes of the output as the call says. Only the contracts of the two are used.
 pub data Over : List ℕ → List ℕ → Session → List (List ℕ) → List ℕ → Type 0 where
-  at-end : {keys rows : List ℕ} {s : Session} {out out′ : List ℕ} {n : ℕ} → EndedOver keys rows s out n out′ → Over keys rows s [] (take n out′)
+  at-end : {keys rows keys′ rows′ : List ℕ} {s : Session} {out out′ : List ℕ} {r : Ran} → EndedOver keys rows s out r keys′ rows′ out′
+      → Over keys rows s [] (take (r .len) out′)
   after-piece : {keys rows keys′ rows′ : List ℕ} {s : Session} {piece : List ℕ} {pieces : List (List ℕ)} {out out′ rest : List ℕ} {r : Ran}
       → RanOver keys rows s piece out r keys′ rows′ out′ → Over keys′ rows′ (r .session) pieces rest
       → Over keys rows s (piece ∷ pieces) (take (r .len) out′ ++ rest)

@@ -7,7 +7,7 @@ use mathlib.Core.List.{List, [], _∷_, _++_}
 use lib.Dec.{eqb}
 use Rattle.line.specs.Calls.{readLine}
 use Rattle.line.specs.Answers.{answerLine}
-use Rattle.line.specs.Lines.{newline, lastLine, linesFrom}
+use Rattle.line.specs.Lines.{newline, linesFrom}
 use Rattle.machine.specs.declared.Machine.{Machine}
 use Rattle.machine.specs.Step.{stepLine, newMachine}
 
@@ -65,9 +65,14 @@ feedPieces r (p ∷ ps) =
     let rest = feedPieces (next .runner) ps in
     record { runner = rest .runner; written = next .written ++ rest .written }
 
--- At the end of the input.
-abbrev pub finish : Runner → List ℕ
-finish r = answersTo (r .machine) (lastLine (r .line))
+-- What a last line lacks: its newline, or nothing where no line is left.
+abbrev pub lackedNewline : List ℕ → List ℕ
+lackedNewline [] = []
+lackedNewline (c ∷ cs) = newline ∷ []
+
+-- At the end of the input a last line without its newline is ended as if it had one.
+abbrev pub finish : Runner → Fed
+finish r = feed r (lackedNewline (r .line))
 
 abbrev pub start : Runner
 start = record { machine = newMachine; line = [] }
@@ -78,4 +83,4 @@ joined (p ∷ ps) = p ++ joined ps
 
 -- However the input is cut into pieces, what is written is what the program writes for the whole.
 abbrev pub PiecesAgree : Type 0
-PiecesAgree = (pieces : List (List ℕ)) → feedPieces start pieces .written ++ finish (feedPieces start pieces .runner) ≡ program (joined pieces)
+PiecesAgree = (pieces : List (List ℕ)) → feedPieces start pieces .written ++ finish (feedPieces start pieces .runner) .written ≡ program (joined pieces)

@@ -67,7 +67,11 @@ pub record EndRoom (keys rows : List ℕ) (s : Session) (tables out : List ℕ) 
   pub tables-are : tables ≡ digitTables
   pub answer-fits : answerSize ≤ length out
 
--- At the end of the input: the answer to a last line that lacks its newline, and the output as it was behind it.
-pub record EndedOver (keys rows : List ℕ) (s : Session) (out : List ℕ) (len : ℕ) (out′ : List ℕ) : Type 0 where
-  pub written : out′ ≡ finish (runnerIn keys rows s) ++ drop len out
-  pub length-is : len ≡ length (finish (runnerIn keys rows s))
+-- At the end of the input: the answer to a last line that lacks its newline, and the output as it was behind it; the machine is the one
+-- after that line, and the session holds no line.
+pub record EndedOver (keys rows : List ℕ) (s : Session) (out : List ℕ) (r : Ran) (keys′ rows′ out′ : List ℕ) : Type 0 where
+  pub written : out′ ≡ finish (runnerIn keys rows s) .written ++ drop (r .len) out
+  pub length-is : r .len ≡ length (finish (runnerIn keys rows s) .written)
+  pub machine : machineIn keys′ rows′ (r .session .scalars) ≡ finish (runnerIn keys rows s) .runner .machine
+  pub no-line : heldLine (r .session .partial) ≡ []
+  pub stays-sound : SoundSession keys′ rows′ (r .session)

@@ -34,7 +34,7 @@ pub struct Session {
     pub partial: Partial,
 }
 
-// The session after a piece, and how many bytes of answers were written.
+// The session after a piece or after the end of the input, and how many bytes of answers were written.
 pub struct Ran {
     pub session: Session,
     pub len: usize,
@@ -160,22 +160,23 @@ pub fn new_session() -> Session
     Session { scalars, partial }
 }
 
-// At the end of the input: answers a last line that lacks its newline, as if it had one. Gives how many bytes were written.
+// At the end of the input: answers a last line that lacks its newline, as if it had one.
 pub fn run_end(
     keys: &mut [u64],
     rows: &mut [u32],
     session: Session,
     tables: &[u16; TABLE_SIZE],
     out: &mut [u8],
-) -> usize
+) -> Ran
     requires { ⌜ EndRoom (now keys) (now rows) session (now tables) (now out) ⌝ }
-    ensures { λ r. ⌜ EndedOver (now (keys .entry)) (now (rows .entry)) session (now (out .entry)) r (now (out .exit)) ⌝ }
+    ensures { λ r.
+        ⌜ EndedOver (now (keys .entry)) (now (rows .entry)) session (now (out .entry))
+        r (now (keys .exit)) (now (rows .exit)) (now (out .exit)) ⌝ }
 {
     let partial = session.partial;
     if partial.len == 0 {
-        return 0;
+        return Ran { session, len: 0 };
     }
     let newline = [b'\n'];
-    let ran = run_piece(keys, rows, session, tables, &newline, out);
-    ran.len
+    run_piece(keys, rows, session, tables, &newline, out)
 }

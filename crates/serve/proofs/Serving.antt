@@ -44,10 +44,10 @@ new-room {s} piece out {n} {m} new e p o many one =
     let b = leb-true answerSize m one in
     record { sound = new-runs s new; tables-are = e; answers-fit = omega arith; answer-fits = omega arith }
 
-pub served-to-end : {keys rows keys₁ rows₁ piece₁ out₁ out′ : List ℕ} {s : Session} {last t : Handed} (keys′ rows′ piece′ : List ℕ)
-    → Looped keys rows s last keys₁ rows₁ piece₁ out₁ → isEnd (last .went) ≡ true → Finished keys₁ rows₁ last out₁ t out′
+pub served-to-end : {keys rows keys₁ rows₁ piece₁ out₁ keys′ rows′ out′ : List ℕ} {s : Session} {last t : Handed} (piece′ : List ℕ)
+    → Looped keys rows s last keys₁ rows₁ piece₁ out₁ → isEnd (last .went) ≡ true → Finished keys₁ rows₁ last out₁ t keys′ rows′ out′
     → Served (t .went) keys rows s t keys′ rows′ piece′ out′
-served-to-end {keys} {rows} {out′ = out′} {s} {last} {t} keys′ rows′ piece′ l e f =
+served-to-end {keys} {rows} {keys′ = keys′} {rows′} {out′} {s} {last} {t} piece′ l e f =
     by (t .went) (f .at-end) (record { last = last; keys₁ = _; rows₁ = _; piece₁ = _; out₁ = _; looped = l; input-ended = is-end (last .went) e; finished = f })
   where
     is-end : (w : Went) → isEnd w ≡ true → w ≡ InputEnded
@@ -57,7 +57,7 @@ served-to-end {keys} {rows} {out′ = out′} {s} {last} {t} keys′ rows′ pie
     is-end WriteFailed h = absurd (Bool.false≢true h)
     is-end LastWriteFailed h = absurd (Bool.false≢true h)
 
-    by : (w : Went) → isFinal w ≡ true → Ended keys rows s t out′ → Served w keys rows s t keys′ rows′ piece′ out′
+    by : (w : Went) → isFinal w ≡ true → Ended keys rows s t keys′ rows′ out′ → Served w keys rows s t keys′ rows′ piece′ out′
     by On h d = absurd (Bool.false≢true h)
     by InputEnded h d = d
     by ReadFailed h d = absurd (Bool.false≢true h)

@@ -20,7 +20,7 @@ isEnd WriteFailed = false
 isEnd LastWriteFailed = false
 
 -- The input has ended, and what was left of it is answered.
-pub record Ended (keys rows : List ℕ) (s : Session) (t : Handed) (out′ : List ℕ) : Type 0 where
+pub record Ended (keys rows : List ℕ) (s : Session) (t : Handed) (keys′ rows′ out′ : List ℕ) : Type 0 where
   pub last : Handed
   pub keys₁ : List ℕ
   pub rows₁ : List ℕ
@@ -28,15 +28,15 @@ pub record Ended (keys rows : List ℕ) (s : Session) (t : Handed) (out′ : Lis
   pub out₁ : List ℕ
   pub looped : Looped keys rows s last keys₁ rows₁ piece₁ out₁
   pub input-ended : last .went ≡ InputEnded
-  pub finished : Finished keys₁ rows₁ last out₁ t out′
+  pub finished : Finished keys₁ rows₁ last out₁ t keys′ rows′ out′
 
 -- What the loop hands on, by how it ended.
 abbrev pub Served : Went → List ℕ → List ℕ → Session → Handed → List ℕ → List ℕ → List ℕ → List ℕ → Type 0
 Served On keys rows s t keys′ rows′ piece′ out′ = Looped keys rows s t keys′ rows′ piece′ out′
 Served ReadFailed keys rows s t keys′ rows′ piece′ out′ = Looped keys rows s t keys′ rows′ piece′ out′
 Served WriteFailed keys rows s t keys′ rows′ piece′ out′ = Looped keys rows s t keys′ rows′ piece′ out′
-Served InputEnded keys rows s t keys′ rows′ piece′ out′ = Ended keys rows s t out′
-Served LastWriteFailed keys rows s t keys′ rows′ piece′ out′ = Ended keys rows s t out′
+Served InputEnded keys rows s t keys′ rows′ piece′ out′ = Ended keys rows s t keys′ rows′ out′
+Served LastWriteFailed keys rows s t keys′ rows′ piece′ out′ = Ended keys rows s t keys′ rows′ out′
 
 -- The same from the new machine.
 pub record ServedNew (t : Handed) : Type 0 where

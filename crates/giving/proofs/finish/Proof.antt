@@ -6,7 +6,7 @@ use Rattle.giving.proofs.finish.Tie as tie
 
 -- where the last line was run
 abbrev at-end : tie.After-give-arg → tie.After-run-end
-at-end c = let rows-back = c .before .before .before in rows-back .before .before .before .before
+at-end c = let rows-back = c .before .before .before .before in rows-back .before .before .before .before
 
 run-end-requires : tie.Need-run-end-requires
 run-end-requires c κs = search needs
@@ -24,7 +24,11 @@ same-length-3 : tie.Need-same-length-3
 same-length-3 c = search needs
 
 returns : tie.Need-returns
-returns c = all-answered (at-end (c .before) .run-end .ensures) (c .give .ensures)
+returns c =
+    let ran = at-end (c .before) in
+    let taken = ran .before .before .before .before .before in
+    let start = taken .before .before .before .before in
+    all-answered {last = start .args .last} (ran .run-end .ensures) (c .give .ensures)
 
 pub finish-spec : {M : Type 1} → statement M
 finish-spec =

@@ -9,8 +9,9 @@ start c = c .before .before .before .before .before
 
 returns : tie.Need-returns
 returns c =
-    let a = start (c .before) .args in
-    end-none (a .keys .now) (a .rows .now) (a .session) (a .out .now) (c .if1 .taken)
+    let s = start (c .before) in
+    let a = s .args in
+    end-none (a .keys .now) (a .rows .now) (a .session) (a .out .now) (s .pre .sound) (c .if1 .taken)
 
 slice-aggregate-run-piece : tie.Need-slice-aggregate-run-piece
 slice-aggregate-run-piece c = search needs

@@ -56,7 +56,7 @@ returns c =
     let done = rows-back .before .before .before .before in
     let if-ended = done .before .before .before .before .before in
     let ran = at-turns (if-ended .before .before) in
-    served-to-end _ _ _ (ran .turns .ensures) (sym (if-ended .before .has-ended .ensures) ∙ if-ended .if1 .taken) (done .finish .ensures)
+    served-to-end _ (ran .turns .ensures) (sym (if-ended .before .has-ended .ensures) ∙ if-ended .if1 .taken) (done .finish .ensures)
 
 same-length-5 : tie.Need-same-length-5
 same-length-5 c = search needs
