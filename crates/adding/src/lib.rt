@@ -1,4 +1,6 @@
 // The copy of one entry to a place of one list, on the running form. The entry point by value, of crate `copying`, and `one_entry` call this.
+#![tactic(auto)]
+
 ghost use Rattle.std.specs.Prelude.{◌≡◌, ◌+◌, ◌*◌, ◌≤◌, eqb, length, take, drop};
 ghost use Rattle.seq.specs.Lists.{any_of};
 ghost use Rattle.def.specs.State.{list_places};

@@ -1,4 +1,6 @@
 // Any line on any slices, with the reply as one number, for the callers of the static library.
+#![tactic(auto)]
+
 ghost use Rattle.std.specs.Prelude.{◌≡◌};
 ghost use Rattle.running.specs.Slices.{slices};
 ghost use Rattle.answering.specs.Answered.{answer_word, OnSlices};

@@ -11,9 +11,9 @@ use lib.ListN.{length}
 use borrow.Author.Tests.{ne_eqb, eq-eqb, eqb-true}
 use Rattle.seq.specs.Lists.{all_of}
 use Rattle.seq.proofs.Tests.{and_left, and_right}
-use Rattle.hex.specs.Hex.{is_digit, is_hex, bytes_of}
-use Rattle.hex.specs.Frame.{byte_at, word_at, body_of, is_checked, is_framed, from_line}
-use Rattle.hex.proofs.HexLaws.{bytes-length, body-length}
+use Rattle.hex_digits.specs.Hex.{is_digit, is_hex, bytes_of}
+use Rattle.hex_digits.specs.Frame.{byte_at, word_at, body_of, is_checked, is_framed, from_line}
+use Rattle.hex_digits.proofs.HexLaws.{bytes-length, body-length}
 use Rattle.framing.proofs.Framed.{unframed, of-body}
 use Rattle.line.specs.Answers.{reply, answer_kind}
 

@@ -1,11 +1,13 @@
 // Answer lines read back: eight bytes in hex whose sum is 0 modulo 256, whatever they say.
+#![tactic(auto)]
+
 ghost use Rattle.std.specs.Prelude.{◌≡◌, length};
-ghost use Rattle.hex.specs.Frame.{byte_at, word_at, from_line};
+ghost use Rattle.hex_digits.specs.Frame.{byte_at, word_at, from_line};
 ghost use Rattle.line.specs.Answers.{reply, answer_kind};
 ghost use Rattle.answers.specs.Answers.{answer_for};
 
 use framing::read_framed;
-use hex::word;
+use hex_digits::word;
 use line::Reply;
 
 const ANSWER_DIGITS: usize = 16;
@@ -15,7 +17,7 @@ const ANSWER_BYTES: usize = 8;
 const BODY_BYTES: usize = 7;
 
 // What a line is: an answer, or what refusal 18 stands for.
-#[derive(Drop)]
+#[derive(Clone, Copy)]
 pub enum AnswerLine {
     Good(Reply),
     Bad,

@@ -1,5 +1,7 @@
 // A state by value taken apart into keys, rows and the rest, for crates `opening` and `parting`; crate `together` puts it together again. Any state
 // may be taken apart: `take_slot` gives a slot that breaks a rule by itself a key that no whole state has.
+#![tactic(auto)]
+
 ghost use Rattle.keys.specs.Keys.{lists_in, Sized};
 ghost use Rattle.apart.specs.Apart.{TakenSlots, TakenApart};
 

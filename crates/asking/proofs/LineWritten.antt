@@ -9,7 +9,7 @@ use lib.ListN.{length, length-append}
 use lib.Seq.{paste}
 use borrow.Author.Tests.{le-ltb}
 use Rattle.def.specs.declared.Refusal.{Refusal}
-use Rattle.hex.specs.Frame.{framed}
+use Rattle.hex_digits.specs.Frame.{framed}
 use Rattle.buffer.specs.Buffer.{newline}
 use Rattle.framing.specs.Framing.{whole_of, line_size}
 use Rattle.framing.proofs.Standing.{framed-size}

@@ -1,7 +1,7 @@
 -- What is made of a line of commands: the line of a call, a message that says what was expected, or nothing.
 -- Assumes nothing.
 use Rattle.std.specs.Prelude.{ℕ, ◌≤◌, cond, List, [], ltb, length}
-use Rattle.hex.specs.Hex.{digits_of, sum8}
+use Rattle.hex_digits.specs.Hex.{digits_of, sum8}
 use Rattle.framing.specs.Framing.{whole_of}
 use Rattle.line.specs.Calls.{call_bytes}
 use Rattle.phrases.specs.Phrases.{Added}

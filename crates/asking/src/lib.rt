@@ -1,4 +1,6 @@
 // A line of a command turned into the line of its call, or into a message that says what was expected.
+#![tactic(auto)]
+
 ghost use Rattle.std.specs.Prelude.{◌≤◌, length};
 ghost use Rattle.line.specs.Calls.{call_bytes};
 ghost use Rattle.line.specs.Claims.{CallFits};
@@ -16,7 +18,7 @@ use writer::{Written, write_call};
 pub const LONGEST: usize = 1023;
 
 // How many bytes stand at the front of the output, and of the messages.
-#[derive(Drop)]
+#[derive(Clone, Copy)]
 pub struct Told {
     pub out: usize,
     pub err: usize,

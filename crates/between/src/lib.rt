@@ -1,5 +1,7 @@
 // The plan of a picture between two multiples of the group's length, with the hierarchy or without it. The group planner, crate `deciding`,
 // calls this.
+#![tactic(auto)]
+
 ghost use Rattle.std.specs.Prelude.{◌≡◌, true, ◌+◌, ◌%◌, ◌≤◌, ◌<◌, pos};
 ghost use Rattle.def.specs.Binary.{floor_log2};
 ghost use Rattle.tbl.specs.DepthRows.{is_gop_size, depth_rule};
@@ -7,7 +9,7 @@ ghost use Rattle.poc.specs.PictureNumber.{max_poc};
 ghost use Rattle.gop.specs.Plan.{derived_plan, in_hierarchy, without_hierarchy};
 
 use def::{EvcPoc, FRM_DEPTH_2, PocVal, SliceType};
-use deriving::poc_derivation;
+use derivation::poc_derivation;
 use gop::{Planning, planned, refused_plan};
 use poc::PocAnswer;
 use tbl::{SliceDepth, slice_depth};

@@ -1,4 +1,6 @@
 // A buffer of lines: where a line ends, and bytes copied into one.
+#![tactic(auto)]
+
 ghost use Rattle.std.specs.Prelude.{◌≡◌, ◌+◌, ◌≤◌, length};
 ghost use Rattle.std.proofs.Math.Seq.{paste};
 ghost use Rattle.buffer.specs.Buffer.{line_end};

@@ -1,5 +1,7 @@
 // The line of each call on the running machine, from plain numbers, for callers that have no bytes: the library answers it as it answers any line.
 // The derivation, which goes a road of its own, stands in crate `recording`.
+#![tactic(auto)]
+
 ghost use Rattle.std.specs.Prelude.{◌≡◌};
 ghost use Rattle.line.specs.declared.Call.TheVariants.{Init, GetEmptyPic, OutPic, RefpInit};
 ghost use Rattle.line.specs.declared.Line.TheVariants.{Good};

@@ -1,5 +1,7 @@
 // The calls on the running machine, each with its answer as a reply: keys and rows are lent and changed in place, the scalars go
 // by value. Each works on a state known to be whole.
+#![tactic(auto)]
+
 ghost use Rattle.std.specs.Prelude.{◌≡◌};
 ghost use Rattle.picman.specs.Init.{init};
 ghost use Rattle.picman.specs.Get.{get};
@@ -10,7 +12,7 @@ ghost use Rattle.machine.specs.Step.{on_state, on_lists};
 ghost use Rattle.machine.specs.Running.{machine_in, Runs, Makes, made_of, derived_of};
 
 use def::{EvcPoc, PutCall, RefpCall};
-use deriving::poc_derivation;
+use derivation::poc_derivation;
 use keys::{Called, PLACES, SLOTS};
 use line::{GET_EMPTY_PIC, INIT, OUT_PIC, PUT_PIC, REFP_INIT, reply_of};
 use machine::fields::derived_reply;

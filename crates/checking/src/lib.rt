@@ -1,4 +1,6 @@
 // A call on the running machine with any bits in it: one that reads the state tests first whether it is whole.
+#![tactic(auto)]
+
 ghost use Rattle.std.specs.Prelude.{◌≡◌, List, ℕ, length};
 ghost use Rattle.def.specs.State.{slots};
 ghost use Rattle.keys.specs.Keys.{Sized};

@@ -1,5 +1,7 @@
 // Which marked pictures the reference lists of a slice hold, and why a list call takes none. Nothing of the state or of the lists is written
 // here; the list call of crate `filling` is built on it.
+#![tactic(auto)]
+
 ghost use Rattle.std.specs.Prelude.{◌≡◌, List, map, ℕ, ◌+◌, ◌≤◌, length};
 ghost use Rattle.def.specs.State.{slots, list_places};
 ghost use Rattle.keys.specs.Keys.{slot_at};

@@ -1,5 +1,7 @@
 // Commands: a line of words that stands for a call, `put 5 ref out` for one. The characters go one by one through `feed`, so a line
 // needs no room; what a word means is known when it ends.
+#![tactic(auto)]
+
 ghost use Rattle.std.specs.Prelude.{◌≡◌};
 ghost use Rattle.tokens.specs.Words.{is_space};
 ghost use Rattle.commands.specs.Commands.{read_command};
@@ -13,7 +15,7 @@ use progress::begun;
 use tokens::{Word, longer, no_word};
 
 // A line of which some characters were read: the words before, the word that is not finished yet, and whether a comment has begun.
-#[derive(Drop)]
+#[derive(Clone, Copy)]
 pub struct Reading {
     pub draft: Draft,
     pub word: Word,

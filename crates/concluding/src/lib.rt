@@ -1,4 +1,6 @@
 // What a line of commands says whose words came to a draft: nothing, a call, or what was expected. Crate `commands` calls `finish`.
+#![tactic(auto)]
+
 ghost use Rattle.std.specs.Prelude.{◌≡◌};
 ghost use Rattle.line.specs.Claims.{CallFits};
 ghost use Rattle.concluding.specs.Concluded.{call_of, finished, CommandFits};
@@ -8,7 +10,7 @@ use line::{Call, GET_EMPTY_PIC, INIT, OUT_PIC, PUT_PIC, REFP_INIT};
 use progress::is_complete;
 
 // What a line says: nothing, where it has no word; a call; or what was expected where it could not be read, by the number of the part.
-#[derive(Drop)]
+#[derive(Clone, Copy)]
 pub enum Command {
     Nothing,
     Call(Call),
@@ -16,6 +18,7 @@ pub enum Command {
 }
 
 // The call that a complete draft stands for.
+#[tactic(auto, unfolding(line::specs::Claims::CallFits))]
 fn call_of(d: Draft) -> Call
     ensures is { result ≡ call_of d }
     ensures fits { CallFits result }

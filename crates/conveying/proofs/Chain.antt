@@ -1,37 +1,33 @@
--- Turns: what one hands on, that there is room for the next, and a chain of them.
+-- Turns: what one hands on, that there is room for the next, a chain of them, and what it read and wrote.
 -- Assumes nothing.
-use Prim.Native.Nat.{ℕ, ◌+◌}
-use native.Mathlib.Omega.{arith}
-use mathlib.Core.Path.{◌≡◌, refl, sym, ap, subst, ◌∙◌}
-use mathlib.Core.Bool.{true, false}
-use mathlib.Core.Bool as Bool
-use mathlib.Core.List.{List}
-use lib.IntN.{ℤ, pos}
-use lib.Signed.{lt_z}
-use lib.ListN.{length, take}
-use Rattle.io.specs.Counts.{clamp_len}
+use Rattle.std.proofs.Common.{◌≡◌, ◌≢◌, ℕ, ◌+◌, ◌<◌, true, false, List, ◌++◌, length, take, refl, sym, ap, subst, arith}
+use Rattle.std.specs.Prelude.{Option, Ok}
+use Rattle.std.specs.Io.KnownBytes.{Appends, Consumes, IsAtEnd}
 use Rattle.reading.specs.declared.Heard.{Heard}
-use Rattle.reading.specs.Reading.{Patient}
+use Rattle.reading.proofs.Brought.{consumes-more}
+use Rattle.pouring.specs.Pouring.{AppendsFront}
+use Rattle.pouring.proofs.Writing.{appends-more, front-more}
 use Rattle.asking.specs.Asked.{Texts}
 use Rattle.spots.specs.declared.Spot.{Spot}
 use Rattle.telling.specs.declared.{Kind.Kind, Spoken.Spoken}
 use Rattle.telling.specs.Telling.{Keeps, ToldPiece}
 use Rattle.delivering.specs.declared.{Went.Went, Handed.Handed}
 use Rattle.delivering.specs.declared.Went.TheVariants.{On, InputEnded, ReadFailed, WriteFailed}
-use Rattle.delivering.specs.Delivering.{Given, taken, failed, idle_handed, is_on, Ended, is_end}
-use Rattle.conveying.specs.Conveying.{TurnRoom, Idle, Turned, Turns, one_turn, next_turn, most_turns, Looped, Relayed, to_the_end, stopped}
-
-pub idle-turn : {held : List ℕ} {spot : Spot} {t : Handed} {h : Heard} {w : Went} → t ≡ idle_handed spot h w → Patient h → Idle held spot t held
-idle-turn e p = rw e (record { same_held = refl; handed = refl; heard_out = p })
+use Rattle.delivering.specs.Delivering.{Given, taken, failed, Wrote, is_on, Ended, is_end}
+use Rattle.conveying.specs.Conveying.{TurnRoom, Idle, brought_by, Turned, Turns, one_turn, next_turn, most_turns, to_the_end, stopped, Fronts, one_front, next_front, LoopedOver, RelayedOver}
 
 -- A turn that read, whatever became of its write.
 pub told-turn : {kind : Kind} {held out err held' out' err' : List ℕ} (piece : List ℕ)
-    {spot : Spot} {next : Spoken} {h : Heard} {n : ℕ} {z : ℤ} {r : Handed} → n ≡ clamp_len z (length piece) → z ≡ h.got
+    {spot : Spot} {next : Spoken} (h : Heard) (n : ℕ) {r : Handed} → h.answer ≡ Ok n → n ≢ 0
     → ToldPiece kind held spot (take n piece) out err next held' out' err'
-    → lt_z (pos 0) h.got ≡ true → Given r (record { spoken = next; heard = h; went = On })
+    → Given r (record { spoken = next; heard = h; went = On })
     → Turned r.went kind held spot out err r held' piece out' err'
-told-turn piece e z told p taken = record { told = rw (e, z) at told; some_brought = p }
-told-turn piece e z told p failed = record { told = rw (e, z) at told; some_brought = p }
+told-turn piece h n e some told taken = record { told = rw e told; some_brought = rw e (omega arith) }
+told-turn piece h n e some told failed = record { told = rw e told; some_brought = rw e (omega arith) }
+
+pub same-heard : {r meant : Handed} → Given r meant → r.heard ≡ meant.heard
+same-heard taken = refl
+same-heard failed = refl
 
 pub still-keeps : (kind : Kind) {held : List ℕ} (spot : Spot) (out err : List ℕ) (t : Handed) (held' piece' out' err' : List ℕ) → Keeps held spot.len
     → (w : Went) → Turned w kind held spot out err t held' piece' out' err' → Keeps held' t.spoken.spot.len
@@ -62,37 +58,86 @@ still-room kind {spot = spot} {out} {err} t {held'} {piece'} {out'} {err'} room 
       err_line = omega arith;
     }
 
--- So many turns were made.
-pub record Reached (kind : Kind) (held : List ℕ) (spot : Spot) (t : Handed) (held' out' err' : List ℕ) (n : ℕ) : Type 0 where
+-- ---- bytes that are known
+
+pub wrote-more : (w : Went) (a b c : Option (List ℕ)) (xs ys : List ℕ) → Appends a b xs → Wrote w b c ys → Wrote w a c (xs ++ ys)
+wrote-more On a b c xs ys h k = appends-more a b c xs ys h k
+wrote-more InputEnded a b c xs ys h k = appends-more a b c xs ys h k
+wrote-more ReadFailed a b c xs ys h k = appends-more a b c xs ys h k
+wrote-more WriteFailed a b c xs ys h k = front-more a b c xs ys h k
+
+-- ---- so many turns
+
+pub record Reached (left left' wrote wrote' said said' : Option (List ℕ)) (size : ℕ) (kind : Kind) (held : List ℕ) (spot : Spot) (t : Handed)
+    (held' out' err' : List ℕ) (n : ℕ) : Type 0 where
   pub input : List ℕ
   pub given : Texts
   pub turns : Turns kind held spot n input given t held' out' err'
+  pub reads : Consumes left left' input
+  pub writes : Wrote t.went wrote wrote' given.out
+  pub messages : Fronts said said' given.err
+  pub at_end : t.went ≡ InputEnded → 0 < size → IsAtEnd left'
 
-pub reach-first : {kind : Kind} {held held' out' err' : List ℕ} {spot : Spot} {t : Handed} (out err piece' : List ℕ)
-    → Turned t.went kind held spot out err t held' piece' out' err' → Reached kind held spot t held' out' err' 1
-reach-first out err piece' turned = record { input = _; given = _; turns = one_turn out err piece' turned }
+pub reach-first : {left left' wrote wrote' said said' : Option (List ℕ)} {size : ℕ} {kind : Kind} {held held' : List ℕ} {spot : Spot} {t : Handed}
+    (out err piece' out' err' : List ℕ) → Turned t.went kind held spot out err t held' piece' out' err'
+    → Consumes left left' (brought_by t piece') → Wrote t.went wrote wrote' (take t.spoken.out out')
+    → AppendsFront said said' (take t.spoken.err err') → (t.went ≡ InputEnded → 0 < size → IsAtEnd left')
+    → Reached left left' wrote wrote' said said' size kind held spot t held' out' err' 1
+reach-first out err piece' out' err' turned reads writes messages end =
+    record {
+      input = _;
+      given = _;
+      turns = one_turn out err piece' turned;
+      reads = reads;
+      writes = writes;
+      messages = one_front messages;
+      at_end = end;
+    }
 
-pub reach-next : {kind : Kind} {held held' out' err' held'' out'' err'' : List ℕ} {spot : Spot} {t u : Handed} {n : ℕ} (piece'' : List ℕ)
-    → Reached kind held spot t held' out' err' n → is_on t.went ≡ true
+is-on : (w : Went) → is_on w ≡ true → w ≡ On
+is-on On e = refl
+is-on InputEnded e = cc
+is-on ReadFailed e = cc
+is-on WriteFailed e = cc
+
+pub reach-next : {left left' left'' wrote wrote' wrote'' said said' said'' : Option (List ℕ)} {size : ℕ} {kind : Kind}
+    {held held' out' err' held'' : List ℕ} {spot : Spot} {t u : Handed} {n : ℕ} (piece'' out'' err'' : List ℕ)
+    → Reached left left' wrote wrote' said said' size kind held spot t held' out' err' n → is_on t.went ≡ true
     → Turned u.went kind held' t.spoken.spot out' err' u held'' piece'' out'' err''
-    → Reached kind held spot u held'' out'' err'' (n + 1)
-reach-next {t = t} piece'' r on turned =
-    record { input = _; given = _; turns = next_turn piece'' r.turns (is-on t.went on) turned }
-  where
-    is-on : (w : Went) → is_on w ≡ true → w ≡ On
-    is-on On e = refl
-    is-on InputEnded e = absurd (Bool.false≢true e)
-    is-on ReadFailed e = absurd (Bool.false≢true e)
-    is-on WriteFailed e = absurd (Bool.false≢true e)
+    → Consumes left' left'' (brought_by u piece'') → Wrote u.went wrote' wrote'' (take u.spoken.out out'')
+    → AppendsFront said' said'' (take u.spoken.err err'') → (u.went ≡ InputEnded → 0 < size → IsAtEnd left'')
+    → Reached left left'' wrote wrote'' said said'' size kind held spot u held'' out'' err'' (n + 1)
+reach-next {left} {left'} {left''} {wrote} {wrote'} {wrote''} {t = t} {u} piece'' out'' err'' r on turned reads writes messages end =
+    let went = is-on t.went on in
+    record {
+      input = _;
+      given = _;
+      turns = next_turn piece'' r.turns went turned;
+      reads = consumes-more left left' left'' r.input (brought_by u piece'') r.reads reads;
+      writes =
+          wrote-more u.went wrote wrote' wrote'' r.given.out (take u.spoken.out out'')
+          (subst (λ (w : Went). Wrote w wrote wrote' r.given.out) went r.writes) writes;
+      messages = next_front r.messages messages;
+      at_end = end;
+    }
 
-pub renumber : {kind : Kind} {held held' out' err' : List ℕ} {spot : Spot} {t : Handed} {m n : ℕ} → m ≡ n → Reached kind held spot t held' out' err' m
-    → Reached kind held spot t held' out' err' n
-renumber {kind} {held} {held'} {out'} {err'} {spot} {t} e r = subst (Reached kind held spot t held' out' err') e r
+pub renumber : {left left' wrote wrote' said said' : Option (List ℕ)} {size : ℕ} {kind : Kind} {held held' out' err' : List ℕ} {spot : Spot} {t : Handed}
+    {m : ℕ} (n : ℕ) → m ≡ n → Reached left left' wrote wrote' said said' size kind held spot t held' out' err' m
+    → Reached left left' wrote wrote' said said' size kind held spot t held' out' err' n
+renumber {left} {left'} {wrote} {wrote'} {said} {said'} {size} {kind} {held} {held'} {out'} {err'} {spot} {t} n e r =
+    subst (λ (k : ℕ). Reached left left' wrote wrote' said said' size kind held spot t held' out' err' k) e r
 
 -- The loop stops where a turn does not go on, or where all are used up.
-pub looped : {kind : Kind} {held held' out' err' : List ℕ} {spot : Spot} {t : Handed} {n : ℕ} → Reached kind held spot t held' out' err' n
-    → (t.went ≡ On → n ≡ most_turns) → Looped kind held spot t held' out' err'
-looped {n = n} r e = record { made = n; input = r.input; given = r.given; turns = r.turns; used_up = e }
+pub looped : {left left' wrote wrote' said said' : Option (List ℕ)} {size : ℕ} {kind : Kind} {held held' out' err' : List ℕ} {spot : Spot} {t : Handed}
+    {n : ℕ} → Reached left left' wrote wrote' said said' size kind held spot t held' out' err' n → (t.went ≡ On → n ≡ most_turns)
+    → LoopedOver left left' wrote wrote' said said' size kind held spot t held' out' err'
+looped {n = n} r e = record {
+  looped = record { made = n; input = r.input; given = r.given; turns = r.turns; used_up = e };
+  reads = r.reads;
+  writes = r.writes;
+  messages = r.messages;
+  at_end = r.at_end;
+}
 
 -- What is kept of a line fits after every turn.
 pub turns-keep : (kind : Kind) {held held' input out' err' : List ℕ} (spot : Spot) {n : ℕ} {given : Texts} {t : Handed}
@@ -100,19 +145,39 @@ pub turns-keep : (kind : Kind) {held held' input out' err' : List ℕ} (spot : S
 turns-keep kind spot {t = t} (one_turn out err piece' turned) k = still-keeps kind spot out err t _ piece' _ _ k t.went turned
 turns-keep kind spot {t = t} (next_turn piece'' before on turned) k = still-keeps kind _ _ _ t _ piece'' _ _ (turns-keep kind spot before k) t.went turned
 
--- The turns, and where the input has ended its last line.
+-- ---- the turns, and where the input has ended its last line
+
 is-end : (w : Went) → is_end w ≡ true → w ≡ InputEnded
-is-end On e = absurd (Bool.false≢true e)
+is-end On e = cc
 is-end InputEnded e = refl
-is-end ReadFailed e = absurd (Bool.false≢true e)
-is-end WriteFailed e = absurd (Bool.false≢true e)
+is-end ReadFailed e = cc
+is-end WriteFailed e = cc
 
-pub relayed-to-end : {kind : Kind} {held held₁ out₁ err₁ held₂ out' err' : List ℕ} {spot : Spot} {last t : Handed}
-    → Looped kind held spot last held₁ out₁ err₁ → is_end last.went ≡ true → Ended kind held₁ last out₁ err₁ t held₂ out' err'
-    → Relayed kind held spot t out' err'
-relayed-to-end {last = last} l e f =
-    to_the_end (record { last = last; held₁ = _; out₁ = _; err₁ = _; held₂ = _; looped = l; input_ended = is-end last.went e; ended = f })
+pub relayed-to-end : {left left' wrote wrote₁ wrote' said said₁ said' : Option (List ℕ)} {size : ℕ} {kind : Kind}
+    {held held₁ out₁ err₁ held₂ : List ℕ} {spot : Spot} {last t : Handed} (out' err' : List ℕ)
+    → LoopedOver left left' wrote wrote₁ said said₁ size kind held spot last held₁ out₁ err₁ → is_end last.went ≡ true
+    → Ended kind held₁ last out₁ err₁ t held₂ out' err' → Wrote t.went wrote₁ wrote' (take t.spoken.out out')
+    → AppendsFront said₁ said' (take t.spoken.err err') → RelayedOver left left' wrote wrote' said said' size kind held spot t out' err'
+relayed-to-end {wrote = wrote} {wrote₁} {wrote'} {last = last} {t} out' err' l e f w m =
+    let went = is-end last.went e in
+    record {
+      relayed =
+          to_the_end (record { last = last; held₁ = _; out₁ = _; err₁ = _; held₂ = _; looped = l.looped; input_ended = went; ended = f });
+      reads = l.reads;
+      writes =
+          wrote-more t.went wrote wrote₁ wrote' l.looped.given.out (take t.spoken.out out')
+          (subst (λ (v : Went). Wrote v wrote wrote₁ l.looped.given.out) went l.writes) w;
+      messages = next_front l.messages m;
+      at_end = λ h. l.at_end went;
+    }
 
-pub relayed-before-end : {kind : Kind} {held held' out' err' : List ℕ} {spot : Spot} {t : Handed}
-    → Looped kind held spot t held' out' err' → is_end t.went ≡ false → Relayed kind held spot t out' err'
-relayed-before-end l e = stopped _ l (λ f. Bool.true≢false (sym (ap is_end f) ∙ e))
+pub relayed-before-end : {left left' wrote wrote' said said' : Option (List ℕ)} {size : ℕ} {kind : Kind} {held held' out' err' : List ℕ} {spot : Spot}
+    {t : Handed} → LoopedOver left left' wrote wrote' said said' size kind held spot t held' out' err' → is_end t.went ≡ false
+    → RelayedOver left left' wrote wrote' said said' size kind held spot t out' err'
+relayed-before-end l e = record {
+  relayed = stopped _ l.looped (λ f. let g = ap is_end f in cc);
+  reads = l.reads;
+  writes = l.writes;
+  messages = l.messages;
+  at_end = λ h. cc;
+}

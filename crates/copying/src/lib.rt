@@ -1,4 +1,6 @@
 // An entry goes to place `cnt` of one list unless its number stands among the first `cnt` entries there.
+#![tactic(auto)]
+
 ghost use Rattle.std.specs.Prelude.{◌≡◌};
 ghost use Rattle.refp.specs.Copy.{copy};
 

@@ -1,5 +1,7 @@
 // The group planner: the Rust's `decide_normal_gop` (src/enc/mod.rs), which says what a picture is to be before its buffer is filled.
 // The lookups in the input queue and the forced slice type stay in the Rust.
+#![tactic(auto)]
+
 ghost use Rattle.std.specs.Prelude.{◌≡◌, true, false, ◌≤◌, ◌<◌};
 ghost use Rattle.tbl.specs.DepthRows.{is_gop_size};
 ghost use Rattle.poc.specs.PictureNumber.{max_poc};
@@ -82,6 +84,7 @@ fn decided(
 }
 
 // The plan of picture `pic_imcnt`, on the record that the plan before it left.
+#[tactic(auto, unfolding(gop::specs::Plan::plan))]
 pub fn decide_normal_gop(
     pic_imcnt: u64,
     gop_size: u64,

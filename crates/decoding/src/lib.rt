@@ -1,9 +1,11 @@
 // Pairs of digits decoded into lent bytes. Reading a framed line calls this; it has tested the lengths.
+#![tactic(auto)]
+
 ghost use Rattle.std.specs.Prelude.{◌≡◌, true, ◌*◌, ◌/◌, ◌%◌, ◌≤◌, length, take};
 ghost use Rattle.seq.specs.Lists.{all_of};
-ghost use Rattle.hex.specs.Hex.{is_digit, bytes_of};
+ghost use Rattle.hex_digits.specs.Hex.{is_digit, bytes_of};
 
-use hex::{is_digit, pair_value};
+use hex_digits::{is_digit, pair_value};
 
 // Writes the bytes that pairs of digits stand for, up to the first pair that is not two digits; says whether all are.
 pub fn decode(digits: &[u8], bytes: &mut [u8]) -> bool

@@ -1,1 +1,1 @@
-mod Last
+pub mod Last

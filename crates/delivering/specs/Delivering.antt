@@ -1,6 +1,8 @@
 -- What a turn of a program that tells lines hands on, and the last line of its input.
 -- Assumes nothing.
-use Rattle.std.specs.Prelude.{ℕ, Bool, true, false, cond, eqb, List, [], ◌∷◌}
+use Rattle.std.specs.Prelude.{ℕ, Bool, true, false, cond, eqb, List, [], ◌∷◌, Option}
+use Rattle.std.specs.Io.KnownBytes.{Appends}
+use Rattle.pouring.specs.Pouring.{AppendsFront}
 use Rattle.reading.specs.declared.Heard.{Heard}
 use Rattle.spots.specs.declared.Spot.{Spot}
 use Rattle.telling.specs.declared.Kind.{Kind}
@@ -12,6 +14,13 @@ use Rattle.delivering.specs.declared.Went.TheVariants.{On, InputEnded, ReadFaile
 pub data Given : Handed → Handed → Type 0 where
   taken : {meant : Handed} → Given meant meant
   failed : {meant : Handed} → Given (record { spoken = meant.spoken; heard = meant.heard; went = WriteFailed }) meant
+
+-- What the output got of the bytes that were given, by how it went.
+abbrev pub Wrote : Went → Option (List ℕ) → Option (List ℕ) → List ℕ → Type 0
+Wrote On old new bytes = Appends old new bytes
+Wrote InputEnded old new bytes = Appends old new bytes
+Wrote ReadFailed old new bytes = Appends old new bytes
+Wrote WriteFailed old new bytes = AppendsFront old new bytes
 
 abbrev pub idle_handed : Spot → Heard → Went → Handed
 idle_handed spot heard went = record { spoken = record { spot = spot; out = 0; err = 0 }; heard = heard; went = went }

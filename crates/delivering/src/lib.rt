@@ -1,23 +1,20 @@
 // What a turn of the loop of `picman_ask` and `picman_say` hands on: texts given to be written, and at the end of the input
 // its last line. A write that fails is said on standard error, with the system's words. Crate `conveying` calls these.
-ghost use Rattle.std.specs.Prelude.{◌≡◌, ◌≤◌, length, [], ◌∷◌};
-ghost use Rattle.telling.specs.Telling.{PieceRoom};
-ghost use Rattle.delivering.specs.Delivering.{Given, is_on, is_end, idle_handed, Ended};
+#![tactic(auto)]
 
+ghost use Rattle.std.specs.Prelude.{◌≡◌, ◌≤◌, length, take, [], ◌∷◌};
+ghost use Rattle.pouring.specs.Pouring.{AppendsFront};
+ghost use Rattle.telling.specs.Telling.{PieceRoom};
+ghost use Rattle.delivering.specs.Delivering.{Given, Wrote, is_on, is_end, idle_handed, Ended};
+
+use pouring::write_whole;
 use reading::Heard;
 use spots::Spot;
+use std::io::Write;
 use telling::{Kind, Spoken, tell_piece};
 
-// The descriptors.
-#[derive(Drop)]
-pub struct Pipes {
-    pub input: i32,
-    pub output: i32,
-    pub errors: i32,
-}
-
 // How a turn went, or the whole loop.
-#[derive(Drop)]
+#[derive(Clone, Copy)]
 pub enum Went {
     On,
     InputEnded,
@@ -26,7 +23,7 @@ pub enum Went {
 }
 
 // Where the input stands after a turn and how much was given to be written, what its read answered, and how it went.
-#[derive(Drop)]
+#[derive(Clone, Copy)]
 pub struct Handed {
     pub spoken: Spoken,
     pub heard: Heard,
@@ -35,24 +32,32 @@ pub struct Handed {
 
 // Gives the fronts of the two buffers to be written, the messages first. A message that can't be written is lost; an output
 // that can't ends the loop.
-pub fn give(pipes: Pipes, out: &[u8], err: &[u8], handed: Handed) -> Handed
+pub fn give<W: Write, E: Write>(
+    rt: &impl Eprint,
+    output: &mut W,
+    errors: &mut E,
+    out: &[u8],
+    err: &[u8],
+    handed: Handed,
+) -> Handed
     requires { (handed.spoken.out ≤ length out.now) × (handed.spoken.err ≤ length err.now) }
-    ensures { Given result handed }
+    ensures given { Given result handed }
+    ensures writes { Wrote result.went (W.contents output.old) (W.contents output.new) (take result.spoken.out out.now) }
+    ensures messages { AppendsFront (E.contents errors.old) (E.contents errors.new) (take result.spoken.err err.now) }
 {
-    let spoken = handed.spoken;
-    let heard = handed.heard;
-    let m = spoken.err;
-    let n = spoken.out;
-    io::write_all(pipes.errors, &err[..m]);
-    if io::write_all(pipes.output, &out[..n]) {
-        return handed;
+    let m = handed.spoken.err;
+    let n = handed.spoken.out;
+    let told = write_whole(errors, &err[..m]);
+    let _ = told;
+    if let Err(e) = write_whole(output, &out[..n]) {
+        let _ = eprintln!(rt; "picman: write: {e}");
+        return Handed {
+            spoken: handed.spoken,
+            heard: handed.heard,
+            went: Went::WriteFailed,
+        };
     }
-    os::fail(b"picman: write");
-    Handed {
-        spoken,
-        heard,
-        went: Went::WriteFailed,
-    }
+    handed
 }
 
 // Nothing was read.
@@ -96,21 +101,24 @@ pub fn has_ended(handed: Handed) -> bool
 }
 
 // At the end of the input: a last line that lacks its newline.
-pub fn finish(
+pub fn finish<W: Write, E: Write>(
+    rt: &impl Eprint,
     kind: Kind,
     held: &mut [u8],
     last: Handed,
-    pipes: Pipes,
+    output: &mut W,
+    errors: &mut E,
     out: &mut [u8],
     err: &mut [u8],
 ) -> Handed
     requires { PieceRoom held.old last.spoken.spot (10 ∷ []) out.old err.old }
-    ensures { Ended kind held.old last out.old err.old
+    ensures ended { Ended kind held.old last out.old err.old
         result held.new out.new err.new }
+    ensures writes { Wrote result.went (W.contents output.old) (W.contents output.new) (take result.spoken.out out.new) }
+    ensures messages { AppendsFront (E.contents errors.old) (E.contents errors.new) (take result.spoken.err err.new) }
 {
-    let before = last.spoken;
     let heard = last.heard;
-    let spot = before.spot;
+    let spot = last.spoken.spot;
     if spot.len == 0 {
         return idle(spot, heard, Went::InputEnded);
     }
@@ -121,5 +129,5 @@ pub fn finish(
         heard,
         went: Went::InputEnded,
     };
-    give(pipes, out, err, handed)
+    give(rt, output, errors, out, err, handed)
 }

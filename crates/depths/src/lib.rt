@@ -1,4 +1,6 @@
 // The depth of a slice as one number for C: 0 where the tables have none.
+#![tactic(auto)]
+
 ghost use Rattle.std.specs.Prelude.{◌≡◌};
 ghost use Rattle.tbl.specs.DepthRows.{slice_depth, slice_depth_p};
 ghost use Rattle.depths.specs.Depths.{depth_or_zero};

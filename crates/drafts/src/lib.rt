@@ -1,5 +1,7 @@
 // A command of which some words were read: which word is wanted next, and each field given. Crate `progress` says how far it is, crates `naming`
 // and `fitting` take the words.
+#![tactic(auto)]
+
 ghost use Rattle.std.specs.Prelude.{◌≡◌};
 ghost use Rattle.drafts.specs.Drafts.{started, with_lead, with_number, with_layer, with_span, with_limit, with_given};
 
@@ -35,7 +37,7 @@ const USUAL_LIMIT: u8 = 21;
 
 // The call's byte, what is wanted next, which parts were given (the flags of a put in the low half, then 16 layer, 32 gap or last intra,
 // 64 limit), and the fields. `lead` is the store size, the slice type or L, `span` the gap or the last intra.
-#[derive(Drop)]
+#[derive(Clone, Copy)]
 pub struct Draft {
     pub call: u8,
     pub want: u8,

@@ -1,4 +1,6 @@
 // The two lists by value and as rows. Any entries may come. What is required is the length of the rows, which every caller makes.
+#![tactic(auto)]
+
 ghost use Rattle.std.specs.Prelude.{◌≡◌, ◌<◌, length};
 ghost use Rattle.keys.specs.Keys.{rows_length, head_of, entry_at, lists_in};
 ghost use Rattle.refp.specs.Running.{EntryStored};

@@ -3,16 +3,15 @@
 -- Assumes nothing.
 use Prim.Native.Nat.{ℕ}
 use mathlib.Core.List.Memᴰ
-use mathlib.Core.List.{List, [], ◌∷◌, map, Memᴰ}
-use mathlib.Core.Path.{◌≡◌, sym, ◌∙◌}
+use mathlib.Core.List.{List, [], ◌∷◌, Memᴰ}
 use native.Mathlib.Omega.{arith}
-use lib.ListN.{length, length-map}
 use mir.Val.{Val}
 use denote.Shadow.{shadow}
 use denote.Array.{Array, each}
 use denote.Laws.{Is}
-use denote.Struct.Field.{Field, u32-field}
-use denote.Struct.Declared.{row, field}
+use denote.RattleType.{RattleType}
+use denote.Struct.Field.{u32-field}
+use denote.Struct.Declared.{row}
 use Rattle.seq.proofs.Members.{holds-cons}
 use Rattle.def.specs.contracts.Slot as slot
 use Rattle.def.specs.contracts.EvcPm as pm
@@ -30,26 +29,20 @@ use Rattle.machine.specs.declared.Machine.{Machine}
 use Rattle.exchange.specs.Lent.{machine_bytes, ImageHolds}
 
 -- an array: its length, and what holds of each element
-module _ (F : Field) (P : F.Value → Type 0) (tells : (x : F.Value) (vs : List Val) → Is F.row (F.into x) vs → P x) where
-  elements : (xs : List F.Value) (us : List Val) → shadow (each F.row.Denot F.row.own_val (map F.into xs) us) → (x : F.Value) → Memᴰ x xs → P x
+module _ (R : RattleType) (P : R.Denot → Type 0) (tells : (x : R.Denot) (vs : List Val) → Is R x vs → P x) where
+  elements : (xs : List R.Denot) (us : List Val) → shadow (each R.Denot R.own_val xs us) → (x : R.Denot) → Memᴰ x xs → P x
   elements [] us g x m = absurd (Memᴰ.not-nil m)
   elements (y ∷ xs) [] g x m = absurd g
   elements (y ∷ xs) (u ∷ us) g x m = holds-cons P (tells y (u ∷ []) g.0) (elements xs us g.1) x m
 
-  array-each : (n : ℕ) (xs : List F.Value) (vs : List Val) → Is (Array F.row n) (map F.into xs) vs → (x : F.Value) → Memᴰ x xs → P x
+  array-each : (n : ℕ) (xs : List R.Denot) (vs : List Val) → Is (Array R n) xs vs → (x : R.Denot) → Memᴰ x xs → P x
   array-each n xs vs g = elements xs g.0 g.1.1
-
-  array_long : (n : ℕ) (xs : List F.Value) (vs : List Val) → Is (Array F.row n) (map F.into xs) vs → length xs ≡ n
-  array_long n xs vs g = sym (length-map xs F.into) ∙ g.1.0.1
 
 word_fits : (n : ℕ) (vs : List Val) → Is u32-field.row n vs → FitsWord n
 word_fits n vs g = omega (arith, g.1)
 
-list-fits : (ns : List ℕ) (vs : List Val) → Is (Array u32-field.row 21) (map u32-field.into ns) vs → ListFits ns
-list-fits ns vs g = record {
-  size = array_long u32-field FitsWord word_fits 21 ns vs g;
-  words = array-each u32-field FitsWord word_fits 21 ns vs g;
-}
+list-fits : (ns : List ℕ) (vs : List Val) → Is (Array u32-field.row 21) ns vs → ListFits ns
+list-fits ns vs g = record { size = g.1.0.1; words = array-each u32-field.row FitsWord word_fits 21 ns vs g }
 
 slot-fits : (s : Slot) (vs : List Val) → Is (row slot.the_type) s vs → SlotFits s
 slot-fits s vs g =
@@ -72,8 +65,8 @@ pm-fits q vs g =
     let all = g.1.1 in
     let scalars = all.1.1 in
     record {
-      size = array_long (field slot.the_type) SlotFits slot-fits 27 q.pic _ all.0;
-      each = array-each (field slot.the_type) SlotFits slot-fits 27 q.pic _ all.0;
+      size = all.0.1.0.1;
+      each = array-each (row slot.the_type) SlotFits slot-fits 27 q.pic _ all.0;
       lease = slot-fits q.pic_lease _ all.1.0;
       store_limit = omega (arith, scalars.0.1);
       reference_limit = omega (arith, scalars.1.0.1);
@@ -95,8 +88,8 @@ machine-fits m vs g =
     let all = g.1.1 in
     record {
       state = pm-fits m.pm _ all.0;
-      places = array_long (field refp.the_type) RefPFits refp-fits 42 m.refp _ all.1.0;
-      entry = array-each (field refp.the_type) RefPFits refp-fits 42 m.refp _ all.1.0;
+      places = all.1.0.1.0.1;
+      entry = array-each (row refp.the_type) RefPFits refp-fits 42 m.refp _ all.1.0;
       kept = poc-fits m.poc _ all.1.1.0;
     }
 

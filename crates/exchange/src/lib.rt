@@ -1,5 +1,7 @@
 // A machine by value and the image, its form for exchange: read from the bytes of an image and written as them. Whoever calls has tested the
 // length.
+#![tactic(auto)]
+
 ghost use Rattle.std.specs.Prelude.{◌≡◌, length};
 ghost use Rattle.image.specs.Image.{image_length};
 ghost use Rattle.exchange.specs.Lent.{machine_of, machine_bytes, ImageHolds};

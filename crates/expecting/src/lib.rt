@@ -1,4 +1,6 @@
 // The message of a line of commands that could not be read: its number and what was expected, from one table. Crate `asking` calls `complain`.
+#![tactic(auto)]
+
 ghost use Rattle.std.specs.Prelude.{◌≡◌, ◌+◌, ◌≤◌, ◌<◌, length};
 ghost use Rattle.phrases.specs.Phrases.{Added};
 ghost use Rattle.expecting.specs.Expected.{expected_place, expected_text, expected_words};

@@ -1,5 +1,7 @@
 // Why a picture is or is not in the forward list of a slice, by value, for crate `image_why`: the state is taken apart, tested and only read. Any
 // state may come: one that is not whole is turned down.
+#![tactic(auto)]
+
 ghost use Rattle.std.specs.Prelude.{◌≡◌};
 ghost use Rattle.reasons.specs.Reasons.{why};
 

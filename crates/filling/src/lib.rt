@@ -1,5 +1,7 @@
 // The list call on the running form: it is decided on the keys of the marked slots before anything is written, and then its entries are stored in
 // place. The entry point by value, of crate `listing`, and the running machine test the state first and call this.
+#![tactic(auto)]
+
 ghost use Rattle.std.specs.Prelude.{◌≡◌, true, ◌+◌, length};
 ghost use Rattle.def.specs.State.{slots, list_places};
 ghost use Rattle.whole.specs.Whole.{whole};

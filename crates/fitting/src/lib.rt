@@ -1,4 +1,6 @@
 // What a word does to a draft where a number stands, and what one more word does, by what is wanted. Crate `commands` calls `step`.
+#![tactic(auto)]
+
 ghost use Rattle.std.specs.Prelude.{◌≡◌};
 ghost use Rattle.fitting.specs.Steps.{parts_of, first_word, second_word, number_word, layer_word, gap_word};
 ghost use Rattle.fitting.specs.Steps.{intra_word, limit_word, step};
@@ -86,6 +88,7 @@ fn limit_word(d: Draft, w: Word) -> Draft
 }
 
 // One more word.
+#[tactic(auto, unfolding(crate::specs::Steps::step))]
 pub fn step(d: Draft, w: Word) -> Draft
     ensures { result ≡ step d w }
 {

@@ -1,4 +1,6 @@
 // A flag as one byte: read from bytes that the caller lends, and made. The image and the planner's records have such bytes.
+#![tactic(auto)]
+
 ghost use Rattle.std.specs.Prelude.{◌≡◌, ◌<◌, length};
 ghost use Rattle.words.specs.Words.{flag_byte, flag_at};
 

@@ -1,1 +1,3 @@
 // The frames of tape that are theorems, in specs/; no code.
+
+#![tactic(auto)]

@@ -12,9 +12,9 @@ use lib.Seq.{take-take}
 use borrow.Author.Tests.{ltb-true, ne_eqb, eq-eqb}
 use Rattle.seq.specs.Lists.{all_of}
 use Rattle.seq.proofs.Tests.{and_left, and_right}
-use Rattle.hex.specs.Hex.{is_digit, is_hex, bytes_of, sum8}
-use Rattle.hex.specs.Frame.{is_checked, is_framed, body_of, Kind, from_line}
-use Rattle.hex.proofs.HexLaws.{bytes-length, not-second}
+use Rattle.hex_digits.specs.Hex.{is_digit, is_hex, bytes_of, sum8}
+use Rattle.hex_digits.specs.Frame.{is_checked, is_framed, body_of, Kind, from_line}
+use Rattle.hex_digits.proofs.HexLaws.{bytes-length, not-second}
 
 module _ (cs : List ℕ) where
   pub odd : (length cs % 2 ≡ 0 → ⊥) → is_framed cs ≡ false

@@ -9,7 +9,7 @@ use lib.ListN.{length, take, drop, set}
 use lib.Seq.{take_all, paste}
 use Rattle.seq.specs.Lists.{Stored}
 use Rattle.seq.proofs.Stores.{stored_one, stored-then, stored-part}
-use Rattle.hex.specs.Hex.{digit_of, digits_of, check_byte}
+use Rattle.hex_digits.specs.Hex.{digit_of, digits_of, check_byte}
 use Rattle.buffer.specs.Buffer.{newline}
 use Rattle.framing.specs.Framing.{whole_of, line_size}
 

@@ -10,10 +10,10 @@ use lib.ListN.{length, length-append}
 use Rattle.seq.specs.Lists.{all_of, lowest}
 use Rattle.seq.proofs.Tests.{and_left, and_right}
 use Rattle.buffer.specs.Buffer.{newline, is_newline}
-use Rattle.hex.specs.Hex.{is_digit, check_byte}
-use Rattle.hex.specs.Frame.{AreBytes, with_check, framed}
-use Rattle.hex.proofs.HexLaws.{digits-length}
-use Rattle.hex.proofs.Faithful.{framed-hex}
+use Rattle.hex_digits.specs.Hex.{is_digit, check_byte}
+use Rattle.hex_digits.specs.Frame.{AreBytes, with_check, framed}
+use Rattle.hex_digits.proofs.HexLaws.{digits-length}
+use Rattle.hex_digits.proofs.Faithful.{framed-hex}
 use Rattle.pairs.proofs.Places.{not-newline}
 
 first-newline : (ds rest : List ℕ) → all_of is_digit ds ≡ true → lowest is_newline (ds ++ (newline ∷ rest)) ≡ length ds

@@ -2,7 +2,7 @@
 -- Assumes nothing.
 use Rattle.std.specs.Prelude.{ℕ, ◌+◌, ◌*◌, List, [], ◌∷◌, ◌++◌, length}
 use Rattle.buffer.specs.Buffer.{newline}
-use Rattle.hex.specs.Frame.{framed}
+use Rattle.hex_digits.specs.Frame.{framed}
 
 abbrev pub whole_of : List ℕ → List ℕ
 whole_of body = framed body ++ (newline ∷ [])

@@ -1,14 +1,16 @@
 // A framed line read and written, whatever its bytes mean: hex pairs, a sum of zero, the check byte last.
 // The public functions' `requires` are met by who has tested that there is room.
+#![tactic(auto)]
+
 ghost use Rattle.std.specs.Prelude.{◌≡◌, true, ◌*◌, ◌/◌, ◌≤◌, length, take};
 ghost use Rattle.std.proofs.Math.Seq.{paste};
 ghost use Rattle.seq.specs.Lists.{Stored};
-ghost use Rattle.hex.specs.Hex.{bytes_of, digits_of};
-ghost use Rattle.hex.specs.Frame.{is_framed};
+ghost use Rattle.hex_digits.specs.Hex.{bytes_of, digits_of};
+ghost use Rattle.hex_digits.specs.Frame.{is_framed};
 ghost use Rattle.framing.specs.Framing.{line_size, whole_of};
 
 use decoding::decode;
-use hex::{high_digit, low_digit};
+use hex_digits::{high_digit, low_digit};
 use summing::{check_byte, is_checked, sum8};
 
 // Whether characters are a framed line; then its bytes, check byte last, stand at the front of `bytes`.

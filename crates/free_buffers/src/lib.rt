@@ -1,4 +1,6 @@
 // The smallest buffer number that no slot holds, found on the keys of the slots, for crate `leasing`.
+#![tactic(auto)]
+
 ghost use Rattle.std.specs.Prelude.{◌≡◌, not, length};
 ghost use Rattle.seq.specs.Lists.{lowest};
 ghost use Rattle.def.specs.State.{slots};

@@ -1,6 +1,8 @@
--- What is handed on of answers that are given to be written, and of the last one: what became of the bytes is the C library's.
+-- What is handed on of answers that are given to be written, and of the last one, and what becomes of the bytes.
 -- Assumes nothing.
-use Rattle.std.specs.Prelude.{ℕ, ◌≡◌, Bool, true, false, List}
+use Rattle.std.specs.Prelude.{ℕ, ◌≡◌, Bool, true, false, List, Option}
+use Rattle.std.specs.Io.KnownBytes.{Appends}
+use Rattle.pouring.specs.Pouring.{AppendsFront}
 use Rattle.run.specs.Session.{EndedOver}
 use Rattle.giving.specs.declared.{Went.Went, Handed.Handed}
 use Rattle.giving.specs.declared.Went.TheVariants.{On, InputEnded, ReadFailed, WriteFailed, LastWriteFailed}
@@ -13,11 +15,20 @@ is_final ReadFailed = false
 is_final WriteFailed = false
 is_final LastWriteFailed = true
 
--- What was given to be written: all is handed on as it was meant, or the write failed.
-pub data Given : Handed → Handed → Went → Type 0 where
-  taken : {meant : Handed} {otherwise : Went} → Given meant meant otherwise
-  failed : {meant : Handed} {otherwise : Went}
-      → Given (record { session = meant.session; heard = meant.heard; written = meant.written; went = otherwise }) meant otherwise
+-- What was given to be written: all is written and handed on as it was meant, or the write failed, and a beginning is written.
+pub data Given : Option (List ℕ) → Option (List ℕ) → List ℕ → Handed → Handed → Went → Type 0 where
+  taken : {old new : Option (List ℕ)} {bytes : List ℕ} {meant : Handed} {otherwise : Went} → Appends old new bytes
+      → Given old new bytes meant meant otherwise
+  failed : {old new : Option (List ℕ)} {bytes : List ℕ} {meant : Handed} {otherwise : Went} → AppendsFront old new bytes
+      → Given old new bytes (record { session = meant.session; heard = meant.heard; written = meant.written; went = otherwise }) meant otherwise
+
+-- What is written of the bytes that were given, by how it went.
+abbrev pub Wrote : Went → Option (List ℕ) → Option (List ℕ) → List ℕ → Type 0
+Wrote On old new bytes = Appends old new bytes
+Wrote InputEnded old new bytes = Appends old new bytes
+Wrote ReadFailed old new bytes = Appends old new bytes
+Wrote WriteFailed old new bytes = AppendsFront old new bytes
+Wrote LastWriteFailed old new bytes = AppendsFront old new bytes
 
 -- At the end of the input: the answer to a last line that lacks its newline stands at the front of `out`, and the session is the one after
 -- that line.

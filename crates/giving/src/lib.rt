@@ -1,14 +1,18 @@
 // Answers given to be written. A write that fails is said on standard error, with the system's words, and how it went is handed on.
-ghost use Rattle.std.specs.Prelude.{◌≤◌, length};
+#![tactic(auto)]
+
+ghost use Rattle.std.specs.Prelude.{◌≤◌, length, take};
 ghost use Rattle.run.specs.Session.{EndRoom};
-ghost use Rattle.giving.specs.Giving.{Given, Finished};
+ghost use Rattle.giving.specs.Giving.{Given, Finished, Wrote};
 
 use lookup::TABLE_SIZE;
+use pouring::write_whole;
 use reading::Heard;
 use run::{Session, run_end};
+use std::io::Write;
 
 // How a turn went, or the whole loop.
-#[derive(Drop)]
+#[derive(Clone, Copy)]
 pub enum Went {
     On,
     InputEnded,
@@ -19,7 +23,7 @@ pub enum Went {
 
 // The session after a turn or after the last line, what the last read answered, how many bytes at the front of `out` were given to be
 // written, and how it went.
-#[derive(Drop)]
+#[derive(Clone, Copy)]
 pub struct Handed {
     pub session: Session,
     pub heard: Heard,
@@ -28,47 +32,50 @@ pub struct Handed {
 }
 
 // Gives the front of `out` to be written. A write that fails is said on standard error, and then `otherwise` is how it went.
-pub fn give(output: i32, out: &[u8], handed: Handed, otherwise: Went) -> Handed
+pub fn give<W: Write>(
+    rt: &impl Eprint,
+    output: &mut W,
+    out: &[u8],
+    handed: Handed,
+    otherwise: Went,
+) -> Handed
     requires { handed.written ≤ length out.now }
-    ensures { Given result handed otherwise }
+    ensures { Given (W.contents output.old) (W.contents output.new) (take handed.written out.now) result handed otherwise }
 {
     let len = handed.written;
-    if io::write_all(output, &out[..len]) {
-        return handed;
+    if let Err(e) = write_whole(output, &out[..len]) {
+        let _ = eprintln!(rt; "picman: write: {e}");
+        return Handed {
+            session: handed.session,
+            heard: handed.heard,
+            written: len,
+            went: otherwise,
+        };
     }
-    os::fail(b"picman: write");
-    let session = handed.session;
-    let heard = handed.heard;
-    Handed {
-        session,
-        heard,
-        written: len,
-        went: otherwise,
-    }
+    handed
 }
 
 // At the end of the input: answers a last line that lacks its newline.
-pub fn finish(
+pub fn finish<W: Write>(
+    rt: &impl Eprint,
     keys: &mut [u64],
     rows: &mut [u32],
     last: Handed,
     tables: &[u16; TABLE_SIZE],
-    output: i32,
+    output: &mut W,
     out: &mut [u8],
 ) -> Handed
     requires { EndRoom keys.old rows.old last.session tables.now out.old }
-    ensures { Finished keys.old rows.old last out.old
+    ensures finished { Finished keys.old rows.old last out.old
         result keys.new rows.new out.new }
+    ensures wrote { Wrote result.went (W.contents output.old) (W.contents output.new) (take result.written out.new) }
 {
-    let session = last.session;
-    let heard = last.heard;
-    let ran = run_end(keys, rows, session, tables, out);
-    let left = ran.session;
+    let ran = run_end(keys, rows, last.session, tables, out);
     let handed = Handed {
-        session: left,
-        heard,
+        session: ran.session,
+        heard: last.heard,
         written: ran.len,
         went: Went::InputEnded,
     };
-    give(output, out, handed, Went::LastWriteFailed)
+    give(rt, output, out, handed, Went::LastWriteFailed)
 }

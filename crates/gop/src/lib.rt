@@ -1,12 +1,14 @@
 // The group planner in definitions: what a picture is to be before its buffer is filled, the Rust's `decide_normal_gop` (src/enc/mod.rs), and
 // what is claimed of a planned group. The types of a plan, which crate `deciding` makes.
+#![tactic(auto)]
+
 ghost use Rattle.std.specs.Prelude.{◌≡◌};
 ghost use Rattle.gop.specs.Plan.{refused_plan, planned};
 
 use def::{EvcPoc, PocVal, Refusal, SliceType};
 
 // What a picture is to be.
-#[derive(Drop)]
+#[derive(Clone, Copy)]
 pub struct PicturePlan {
     pub slice_type: SliceType,
     pub slice_depth: u8,
@@ -14,14 +16,14 @@ pub struct PicturePlan {
     pub slice_ref_flag: bool,
 }
 
-#[derive(Drop)]
+#[derive(Clone, Copy)]
 pub enum PlanAnswer {
     Planned(PicturePlan),
     Refused(Refusal),
 }
 
 // A plan, with the record for the next one.
-#[derive(Drop)]
+#[derive(Clone, Copy)]
 pub struct Planning {
     pub answer: PlanAnswer,
     pub poc: EvcPoc,

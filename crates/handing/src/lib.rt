@@ -1,4 +1,6 @@
 // Out: the lowest slot wanted for output whose number is due is handed over.
+#![tactic(auto)]
+
 ghost use Rattle.std.specs.Prelude.{◌≡◌, List, ℕ, ◌<◌, ◌≤◌, length, get_or, set};
 ghost use Rattle.def.specs.State.{slots, highest_poc};
 ghost use Rattle.keys.specs.Keys.{key_number, key_handed_over, rows_length, stands};

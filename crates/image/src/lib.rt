@@ -1,5 +1,7 @@
 // The image that the library lends to C: state, lists and record as 6,407 bytes, big-endian.
 // Which bytes are an image, and in specs/ what they stand for and how they are written. Every call on an image asks this first.
+#![tactic(auto)]
+
 ghost use Rattle.std.specs.Prelude.{◌≡◌, ◌+◌, ◌*◌, ◌≤◌, ◌<◌, length};
 ghost use Rattle.seq.specs.Lists.{all_of};
 ghost use Rattle.def.specs.State.{slots, list_places};
@@ -52,6 +54,7 @@ fn refps_flagged(image: &[u8]) -> bool
 }
 
 // Any bytes may be asked.
+#[tactic(auto, unfolding(crate::specs::Image::is_image))]
 pub fn is_image(image: &[u8]) -> bool
     ensures { result ≡ is_image image.now }
 {

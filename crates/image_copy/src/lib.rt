@@ -1,5 +1,7 @@
 // The copy of an entry's bytes into the lists of an image. A size or a flag byte that does not fit gives 18, and nothing is written; in the contract
 // of `copy_image`, `given`, `holds` and `kept` are as for the calls of crate `images`.
+#![tactic(auto)]
+
 ghost use Rattle.std.specs.Prelude.{◌≡◌, length};
 ghost use Rattle.image.specs.Image.{refp_width, image_length};
 ghost use Rattle.exchange.specs.Lent.{left, machine_of, ImageHolds};

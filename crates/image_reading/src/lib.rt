@@ -1,4 +1,6 @@
 // What the bytes of an image stand for, read part by part: state, lists and record. The calls on an image read it by this.
+#![tactic(auto)]
+
 ghost use Rattle.std.specs.Prelude.{◌≡◌, ◌+◌, ◌*◌, ◌≤◌, length};
 ghost use Rattle.def.specs.State.{list_places};
 ghost use Rattle.image.specs.Image.{word_width, slot_width, refp_width, image_length, list_at, slot_at, pm_of, refp_at, refp_of, poc_of};
@@ -27,6 +29,7 @@ fn read_list(image: &[u8], at: usize) -> [u32; MAX_NUM_REF_PICS]
     list
 }
 
+#[tactic(auto, unfolding(image::specs::Image::slot_at))]
 fn read_slot(image: &[u8], at: usize) -> Slot
     requires { at + slot_width ≤ length image.now }
     ensures { result ≡ slot_at image.now at }
@@ -61,6 +64,7 @@ fn read_slots(image: &[u8]) -> [Slot; MAX_PB_SIZE]
     pic
 }
 
+#[tactic(auto, unfolding(image::specs::Image::pm_of))]
 pub fn read_pm(image: &[u8]) -> EvcPm
     requires { length image.now ≡ image_length }
     ensures { result ≡ pm_of image.now }
@@ -81,6 +85,7 @@ pub fn read_pm(image: &[u8]) -> EvcPm
     }
 }
 
+#[tactic(auto, unfolding(image::specs::Image::refp_at))]
 pub fn read_refp(image: &[u8], at: usize) -> EvcRefP
     requires { at + refp_width ≤ length image.now }
     ensures { result ≡ refp_at image.now at }
@@ -110,6 +115,7 @@ pub fn read_refps(image: &[u8]) -> [EvcRefP; REFP_PLACES]
     refp
 }
 
+#[tactic(auto, unfolding(image::specs::Image::poc_of))]
 pub fn read_poc(image: &[u8]) -> EvcPoc
     requires { length image.now ≡ image_length }
     ensures { result ≡ poc_of image.now }

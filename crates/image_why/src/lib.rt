@@ -1,4 +1,6 @@
 // The question why asked of an image: the bytes of a list call's line and a slot. The library's function for images is thin over it.
+#![tactic(auto)]
+
 ghost use Rattle.std.specs.Prelude.{◌≡◌, length};
 ghost use Rattle.image.specs.Image.{image_length, pm_of};
 ghost use Rattle.reasons.specs.Reasons.{why};

@@ -1,5 +1,7 @@
 // The bytes of an image, written part by part into a lent one; the bytes before and behind stay. Saving an image calls this.
 // `Stored bs at ys n after` says: after is bs with ys, n bytes, stored from place at on.
+#![tactic(auto)]
+
 ghost use Rattle.std.specs.Prelude.{◌≡◌, ◌+◌, ◌*◌, ◌≤◌, length};
 ghost use mathlib.Core.List.{flat_map};
 ghost use Rattle.seq.specs.Lists.{Stored};

@@ -2,6 +2,8 @@
 // a flag byte that does not fit gives 18, and nothing is written. In the contracts `given` says, byte for byte, what is given and what the lent
 // buffers hold then; `holds` says that the bytes are an image again, from which the next call reads the machine that this one left; `kept` says
 // that a call that is turned down, with a refusal's number, leaves the image as it was.
+#![tactic(auto)]
+
 ghost use Rattle.std.specs.Prelude.{◌≡◌, length};
 ghost use Rattle.line.specs.Answers.{bad_line_reply};
 ghost use Rattle.image.specs.Image.{image_length};

@@ -1,5 +1,7 @@
 // Why a picture is or is not in the forward list of a slice, on the keys of the running form. Nothing is changed: the keys are only read, the
 // list call's refusals come from `choose`, and the answer for a slot from crate `one_slot`.
+#![tactic(auto)]
+
 ghost use Rattle.std.specs.Prelude.{◌≡◌, List, map, ℕ, ◌+◌, length};
 ghost use Rattle.def.specs.State.{slots, list_places};
 ghost use Rattle.keys.specs.Keys.{slot_at};

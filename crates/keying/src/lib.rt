@@ -1,5 +1,7 @@
 // One slot by value becomes a key and a row, for crate `apart`. Any slot may come: one that breaks a rule by itself becomes a key that no whole
 // state has.
+#![tactic(auto)]
+
 ghost use Rattle.std.specs.Prelude.{◌≡◌, eqb, length};
 ghost use Rattle.seq.specs.Lists.{all_of};
 ghost use Rattle.keys.specs.Keys.{rows_length};

@@ -1,6 +1,8 @@
 // The running form of the picture manager: a slot is one number, a key, and the list numbers of a picture stay in a row under its buffer
 // number, as the original moves pointers and not pictures. The list entries are rows of the same array. `stands` in specs/Keys.antt says
 // which state keys, rows and the rest stand for; every call of the core is stated through it.
+#![tactic(auto)]
+
 pub mod key;
 pub mod row;
 
@@ -27,7 +29,7 @@ pub const ENTRY_ROW: usize = NUMBER_ROW + 2;
 pub const ROWS: usize = (ENTRY_ROW + PLACES) * ROW;
 
 // What is left of the state beside the slots and the rows; `lease` is a key.
-#[derive(Drop)]
+#[derive(Clone, Copy)]
 pub struct Rest {
     pub lease: u64,
     pub max_pb_size: u8,
@@ -41,7 +43,7 @@ pub struct Rest {
 }
 
 // The answer to a call, with the rest after it.
-#[derive(Drop)]
+#[derive(Clone, Copy)]
 pub struct Called {
     pub answer: Answer,
     pub rest: Rest,

@@ -1,4 +1,6 @@
 // Get: the lowest idle picture is taken out of the store and leased, else a new one is made.
+#![tactic(auto)]
+
 ghost use Rattle.std.specs.Prelude.{◌≡◌, true, ◌*◌, ◌<◌, ◌≤◌, length, get_or, replicate};
 ghost use Rattle.std.proofs.Math.Seq.{paste};
 ghost use Rattle.seq.specs.Lists.{remove_at};

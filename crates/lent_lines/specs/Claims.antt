@@ -3,7 +3,7 @@
 -- Assumes nothing.
 use Rattle.std.specs.Prelude.{ℕ, ◌+◌, ◌*◌, ◌/◌, ◌%◌, ◌^◌, ◌<◌, ◌≤◌, ◌≡◌, List, length}
 use Rattle.def.specs.Word.{word}
-use Rattle.hex.specs.Frame.{byte_at}
+use Rattle.hex_digits.specs.Frame.{byte_at}
 use Rattle.line.specs.Calls.{longest_line}
 use Rattle.reader.specs.Reading.{after_line}
 use Rattle.writer.specs.Writing.{written}

@@ -1,5 +1,7 @@
 // Answer lines read and call lines written on bytes that the caller lends, for the library's `picman_read_answer` and `picman_write_call`, so
 // that a display needs no parser of its own. Where the record's size does not fit it gives 18 and writes nothing.
+#![tactic(auto)]
+
 ghost use Rattle.std.specs.Prelude.{◌≡◌};
 ghost use Rattle.lent_lines.specs.LentLines.{lent_out, no_reply, place_record, record_of, read_status, read_out};
 ghost use Rattle.lent_lines.specs.LentLines.{written_status, written_length, wrote_out};

@@ -1,9 +1,11 @@
 // Picture numbers derived on a record that the caller lends: the Rust's `evc_poc_derivation` (src/util.rs) in its own form.
+#![tactic(auto)]
+
 ghost use Rattle.std.specs.Prelude.{◌≡◌};
 ghost use Rattle.poc.specs.PictureNumber.{derive};
 
 use def::EvcPoc;
-use deriving::poc_derivation;
+use derivation::poc_derivation;
 use poc::PocAnswer;
 
 // The next picture number, on a record that the caller lends.

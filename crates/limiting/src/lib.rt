@@ -1,4 +1,6 @@
 // Marking's sliding limit: of too many marked slots the first are unmarked and noted, and sent behind all the others. With it, marking whole.
+#![tactic(auto)]
+
 ghost use Rattle.std.specs.Prelude.{◌≡◌, length};
 ghost use Rattle.def.specs.State.{slots};
 ghost use Rattle.marking.specs.OnKeys.{Unmarks, Walked, Marks};

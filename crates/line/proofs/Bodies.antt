@@ -16,13 +16,13 @@ use Rattle.def.proofs.WordLaws.{word-of-bytes, bytes-of-word}
 use Rattle.line.specs.declared.Call.{Call}
 use Rattle.line.specs.declared.Call.TheVariants.{Init, GetEmptyPic, PutPic, OutPic, RefpInit, PocDerivation}
 use Rattle.line.specs.declared.Reply.{Reply}
-use Rattle.hex.specs.Hex.{word_bytes}
-use Rattle.hex.specs.Frame.{AreBytes, byte_at, word_at}
+use Rattle.hex_digits.specs.Hex.{word_bytes}
+use Rattle.hex_digits.specs.Frame.{AreBytes, byte_at, word_at}
 use Rattle.line.specs.Calls.{is_call, bad_flags, lists_in, call_in, call_bytes, call_kind}
 use Rattle.line.specs.Answers.{reply, reply_in, reply_bytes, answer_kind}
-use Rattle.hex.specs.Claims.{Lawful}
+use Rattle.hex_digits.specs.Claims.{Lawful}
 use Rattle.line.specs.Claims.{CallFits, ReplyFits, CallsFaithful, AnswersFaithful}
-use Rattle.hex.proofs.Faithful.{byte_fits, lines-faithful}
+use Rattle.hex_digits.proofs.Faithful.{byte_fits, lines-faithful}
 
 some_is : {A : Type 0} {a b : A} → some a ≡ some b → a ≡ b
 some_is e = cc

@@ -11,9 +11,9 @@ use lib.ListN.{length}
 use borrow.Author.Tests.{ne_eqb, eqb-true}
 use Rattle.seq.specs.Lists.{all_of}
 use Rattle.line.specs.declared.Line.TheVariants.{Bad}
-use Rattle.hex.proofs.HexLaws.{bytes-length, body-length, not-second}
-use Rattle.hex.specs.Hex.{is_digit, bytes_of}
-use Rattle.hex.specs.Frame.{is_checked, body_of, from_bytes, byte_at}
+use Rattle.hex_digits.proofs.HexLaws.{bytes-length, body-length, not-second}
+use Rattle.hex_digits.specs.Hex.{is_digit, bytes_of}
+use Rattle.hex_digits.specs.Frame.{is_checked, body_of, from_bytes, byte_at}
 use Rattle.line.specs.Calls.{longest_line, is_call, call_in, call_kind, line_for, read_line}
 
 -- The body of a call has 12 bytes at most.

@@ -10,10 +10,10 @@ use borrow.Author.Tests.{ne_eqb, eq-eqb, lt-ltb}
 use Rattle.seq.specs.Lists.{all_of}
 use Rattle.seq.proofs.Tests.{and_both}
 use Rattle.line.specs.declared.Line.TheVariants.{Bad}
-use Rattle.hex.specs.Hex.{is_digit, is_hex, bytes_of, sum8}
-use Rattle.hex.specs.Frame.{body_of, is_checked, is_framed}
+use Rattle.hex_digits.specs.Hex.{is_digit, is_hex, bytes_of, sum8}
+use Rattle.hex_digits.specs.Frame.{body_of, is_checked, is_framed}
 use Rattle.line.specs.Calls.{call_in, call_kind, line_for, call_from, read_line}
-use Rattle.hex.proofs.HexLaws.{not-second}
+use Rattle.hex_digits.proofs.HexLaws.{not-second}
 use Rattle.framing.proofs.Framed.{unframed, of-body}
 
 -- Bytes that have no check byte are Bad, and of any others the body is read.

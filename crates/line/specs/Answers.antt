@@ -6,8 +6,8 @@ use Rattle.def.specs.declared.Answer.{Answer}
 use Rattle.def.specs.declared.Answer.TheVariants.{Done, Picture, NotYet, NoMore, Counts, Refused}
 use Rattle.def.specs.Refusals.{refusal_number}
 use Rattle.line.specs.declared.Reply.{Reply}
-use Rattle.hex.specs.Hex.{digits_of, word_bytes}
-use Rattle.hex.specs.Frame.{Kind, framed, byte_at, word_at}
+use Rattle.hex_digits.specs.Hex.{digits_of, word_bytes}
+use Rattle.hex_digits.specs.Frame.{Kind, framed, byte_at, word_at}
 pub use Rattle.line.specs.Lines.{newline}
 pub use Rattle.def.specs.Word.{twos_complement}
 

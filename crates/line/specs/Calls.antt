@@ -6,8 +6,8 @@ use Rattle.line.specs.declared.Call.{Call}
 use Rattle.line.specs.declared.Call.TheVariants.{Init, GetEmptyPic, PutPic, OutPic, RefpInit, PocDerivation}
 use Rattle.line.specs.declared.Line.{Line}
 use Rattle.line.specs.declared.Line.TheVariants.{Good, Bad}
-use Rattle.hex.specs.Hex.{bytes_of, sum8, word_bytes}
-use Rattle.hex.specs.Frame.{byte_at, word_at, body_of, Kind, from_bytes, from_line}
+use Rattle.hex_digits.specs.Hex.{bytes_of, sum8, word_bytes}
+use Rattle.hex_digits.specs.Frame.{byte_at, word_at, body_of, Kind, from_bytes, from_line}
 
 -- The longest call line has 26 digits.
 abbrev pub longest_line : ℕ

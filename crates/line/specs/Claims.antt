@@ -2,7 +2,7 @@
 -- never share one.
 -- Assumes nothing.
 use Rattle.std.specs.Prelude.{ℕ, ◌^◌, ◌<◌, ◌≤◌}
-use Rattle.hex.specs.Claims.{Faithful}
+use Rattle.hex_digits.specs.Claims.{Faithful}
 use Rattle.line.specs.declared.Call.{Call}
 use Rattle.line.specs.declared.Call.TheVariants.{Init, GetEmptyPic, PutPic, OutPic, RefpInit, PocDerivation}
 use Rattle.line.specs.declared.Reply.{Reply}

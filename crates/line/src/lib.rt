@@ -1,5 +1,7 @@
 // Calls and answers: what a call line and an answer line are, and the fields that an answer shows. Every crate that reads, makes or answers a
 // call has its types from here.
+#![tactic(auto)]
+
 ghost use Rattle.std.specs.Prelude.{◌≡◌};
 ghost use Rattle.line.specs.Answers.{no_buffer, reply, reply_of, bad_line_reply};
 
@@ -33,7 +35,7 @@ pub const REFP_INIT: u8 = 5;
 pub const POC_DERIVATION: u8 = 6;
 
 // A call as its line has it. Fields keep their bytes: what a flag or a slice type means is decided at the call.
-#[derive(Drop)]
+#[derive(Clone, Copy)]
 pub enum Call {
     Init {
         max_pb_size: u8,
@@ -61,21 +63,21 @@ pub enum Call {
 }
 
 // What a line is: a call, or what refusal 18 stands for.
-#[derive(Drop)]
+#[derive(Clone, Copy)]
 pub enum Line {
     Good(Call),
     Bad,
 }
 
 // What stands at a place of a buffer: a good line with its newline, its call and the place behind it, or anything else.
-#[derive(Drop)]
+#[derive(Clone, Copy)]
 pub enum LineAt {
     Good(Call, usize),
     Other,
 }
 
 // The fields of an answer line, without its check byte.
-#[derive(Drop)]
+#[derive(Clone, Copy)]
 pub struct Reply {
     pub call: u8,
     pub status: u8,

@@ -1,5 +1,7 @@
 // The reference lists of a slice, by value, with the name and the shape of the original: the entry point takes state and lists apart, tests the
 // state, calls the running core and puts both together. Any state may come: one that is not whole is handed back with its refusal.
+#![tactic(auto)]
+
 ghost use Rattle.std.specs.Prelude.{◌≡◌};
 ghost use Rattle.refp.specs.Lists.{lists};
 

@@ -1,9 +1,11 @@
 // The table of digits. A `const` array that is indexed by a variable is built anew on the stack at every use: the table is built once and lent
 // to what reads and writes lines by table.
-ghost use Rattle.std.specs.Prelude.{◌≡◌, ◌<◌};
-ghost use Rattle.hex.specs.Hex.{char_value, digit_pair, table_entry, digit_tables};
+#![tactic(auto)]
 
-use hex::{digit_value, high_digit, is_digit, low_digit};
+ghost use Rattle.std.specs.Prelude.{◌≡◌, ◌<◌};
+ghost use Rattle.hex_digits.specs.Hex.{char_value, digit_pair, table_entry, digit_tables};
+
+use hex_digits::{digit_value, high_digit, is_digit, low_digit};
 
 pub const TABLE_SIZE: usize = 512;
 

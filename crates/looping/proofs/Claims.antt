@@ -1,13 +1,9 @@
 -- What the turns give to be written is the beginning of what the program writes.
 -- Assumes nothing.
-use Prim.Native.Nat.{ℕ}
-use native.Mathlib.Omega.{arith}
-use mathlib.Core.Path.{◌≡◌, refl, sym, ap, ◌∙◌}
-use mathlib.Core.List.{List, [], ◌∷◌, ◌++◌, append_assoc, append-nil}
-use lib.ListN.{length, take}
+use Rattle.std.proofs.Common.{◌≡◌, ℕ, List, [], ◌∷◌, ◌++◌, take, refl, sym, ap, ◌∙◌, arith, append_assoc}
 use lib.Seq.{take-take}
-use Rattle.io.specs.Counts.{clamp_len}
-use Rattle.reading.proofs.Signs.{nothing-brought, nothing-failed}
+use Rattle.reading.specs.Reading.{brought}
+use Rattle.reading.proofs.Brought.{nothing-failed}
 use Rattle.run.specs.declared.Session.{Session}
 use Rattle.run.specs.Partial.{kept_length}
 use Rattle.run.specs.Run.{Runner, Fed, after, program, feed, finish, start, joined}
@@ -19,6 +15,7 @@ use Rattle.giving.specs.declared.{Went.Went, Handed.Handed}
 use Rattle.giving.specs.declared.Went.TheVariants.{On, InputEnded, ReadFailed, WriteFailed, LastWriteFailed}
 use Rattle.turning.specs.Turning.{brought_by, Idle, Ranging, Turned}
 use Rattle.looping.specs.Loop.{Turns, one_turn, next_turn}
+use Rattle.looping.proofs.Looping.{joined-one, joined-snoc}
 use Rattle.looping.specs.Claims.{TurnsRun, ServeBegins}
 
 -- A run that agrees with `f` in its machine and in what is kept of its line, and what was written up to there.
@@ -30,7 +27,7 @@ pub record Agrees (r : Runner) (given : List ℕ) (f : Fed) : Type 0 where
 
 module _ (keys rows : List ℕ) (s : Session) (out keys' rows' out' : List ℕ) (t : Handed) (piece' : List ℕ)
     (r : Runner) (a : Alike (runner_in keys rows s) r) where
-  idle-agrees : Idle keys rows s out t keys' rows' out' → clamp_len t.heard.got (length piece') ≡ 0
+  idle-agrees : Idle keys rows s out t keys' rows' out' → brought t.heard.answer ≡ 0
       → Agrees (runner_in keys' rows' t.session) (take t.written out') (feed r (brought_by t piece'))
   unfolding feed
   idle-agrees i e = rw (i.same_keys, i.same_rows, i.same_session, i.nothing_written, e) (record { alike = a; wrote = refl })
@@ -55,20 +52,11 @@ module _ (keys rows : List ℕ) (s : Session) (out keys' rows' out' : List ℕ) 
       → Agrees (runner_in keys' rows' t.session) (take t.written out') (feed r (brought_by t piece'))
   turn-agrees On i = ranging-agrees i
   turn-agrees WriteFailed i = ranging-agrees i
-  turn-agrees InputEnded i = idle-agrees i.0 (nothing-brought t.heard.got (length piece') i.1)
-  turn-agrees ReadFailed i = idle-agrees i.0 (nothing-failed t.heard.got (length piece') i.1)
+  turn-agrees InputEnded i = idle-agrees i.0 (ap brought i.1)
+  turn-agrees ReadFailed i = idle-agrees i.0 (nothing-failed t.heard.answer i.1)
   turn-agrees LastWriteFailed i = absurd i
 
 -- ---- all turns
-
-joined-one : (p : List ℕ) → joined (p ∷ []) ≡ p
-unfolding joined
-joined-one p = append-nil p
-
-joined_snoc : (ps : List (List ℕ)) (p : List ℕ) → joined (ps ++ (p ∷ [])) ≡ joined ps ++ p
-unfolding joined
-joined_snoc [] p = append-nil p
-joined_snoc (q ∷ ps) p = ap (λ (l : List ℕ). q ++ l) (joined_snoc ps p) ∙ sym (append_assoc q (joined ps) p)
 
 pub turns-agree : {keys rows keys' rows' piece' out' given : List ℕ} {s : Session} {pieces : List (List ℕ)} {t : Handed}
     → Turns keys rows s pieces given t keys' rows' piece' out' → (r : Runner) → Alike (runner_in keys rows s) r
@@ -81,7 +69,7 @@ turns-agree {keys' = keys''} {rows' = rows''} {piece' = piece''} {out' = out''} 
     let b = turns-agree before r a in
     let n = turn-agrees keys' rows' t.session out' keys'' rows'' out'' u piece'' (feed r (joined pieces)).runner b.alike u.went turned in
     let e : feed r (joined (pieces ++ (p ∷ []))) ≡ after (feed r (joined pieces)).written (feed (feed r (joined pieces)).runner p) =
-    ap (feed r) (joined_snoc pieces p) ∙ feed-append r (joined pieces) p in
+    ap (feed r) (joined-snoc pieces p) ∙ feed-append r (joined pieces) p in
     rw e (record { alike = n.alike; wrote = join b.wrote n.wrote })
   where
     join : {x y z w : List ℕ} → x ≡ y → z ≡ w → x ++ z ≡ y ++ w

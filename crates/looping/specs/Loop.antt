@@ -1,7 +1,10 @@
 -- Turn after turn of the program's loop.
 -- Assumes nothing.
-use Rattle.std.specs.Prelude.{ℕ, ◌^◌, ◌≡◌, Bool, true, false, List, [], ◌∷◌, ◌++◌, length, take}
+use Rattle.std.specs.Prelude.{ℕ, ◌^◌, ◌<◌, ◌≡◌, Bool, true, false, List, [], ◌∷◌, ◌++◌, length, take, Option}
+use Rattle.std.specs.Io.KnownBytes.{Consumes, IsAtEnd}
 use Rattle.run.specs.declared.Session.{Session}
+use Rattle.run.specs.Run.{joined}
+use Rattle.giving.specs.Giving.{Wrote}
 use Rattle.giving.specs.declared.{Went.Went, Handed.Handed}
 use Rattle.giving.specs.declared.Went.TheVariants.{On, InputEnded, ReadFailed, WriteFailed, LastWriteFailed}
 use Rattle.turning.specs.Turning.{brought_by, Turned}
@@ -35,3 +38,12 @@ pub record Looped (keys rows : List ℕ) (s : Session) (t : Handed) (keys' rows'
   pub given : List ℕ
   pub turns : Turns keys rows s pieces given t keys' rows' piece' out'
   pub used_up : t.went ≡ On → length pieces ≡ most_turns
+
+-- What the turns read is what the reader lost, and what they gave is what the writer got, where the bytes of either are known; where a
+-- write failed the writer got a beginning of it.
+pub record LoopedOver (left left' held held' : Option (List ℕ)) (keys rows : List ℕ) (s : Session) (t : Handed) (keys' rows' piece' out' : List ℕ)
+    : Type 0 where
+  pub looped : Looped keys rows s t keys' rows' piece' out'
+  pub reads : Consumes left left' (joined looped.pieces)
+  pub writes : Wrote t.went held held' looped.given
+  pub at_end : t.went ≡ InputEnded → 0 < length piece' → IsAtEnd left'

@@ -1,18 +1,20 @@
 // Turn after turn, until one does not go on.
+#![tactic(auto)]
+
 ghost use Rattle.std.specs.Prelude.{◌≡◌};
 ghost use Rattle.turning.specs.Turning.{TurnRoom};
-ghost use Rattle.looping.specs.Loop.{is_on, Looped};
+ghost use Rattle.looping.specs.Loop.{is_on, Looped, LoopedOver};
 
 use giving::{Handed, Went};
 use lookup::TABLE_SIZE;
 use run::Session;
-use turning::{Pipes, turn};
+use std::io::{Read, Write};
+use turning::turn;
 
 fn goes_on(handed: Handed) -> bool
     ensures { result ≡ is_on handed.went }
 {
-    let went = handed.went;
-    match went {
+    match handed.went {
         Went::On => true,
         Went::InputEnded => false,
         Went::ReadFailed => false,
@@ -23,25 +25,35 @@ fn goes_on(handed: Handed) -> bool
 
 // Turn after turn, until one doesn't go on. A proved loop has to end, and nothing says that an input does, so the turns count down, from
 // a number that no run uses up.
-pub fn turns(
+pub fn turns<R: Read, W: Write>(
+    rt: &impl Eprint,
     keys: &mut [u64],
     rows: &mut [u32],
     session: Session,
     tables: &[u16; TABLE_SIZE],
-    pipes: Pipes,
+    input: &mut R,
+    output: &mut W,
     piece: &mut [u8],
     out: &mut [u8],
 ) -> Handed
     requires { TurnRoom keys.old rows.old session tables.now piece.old out.old }
-    ensures { Looped keys.old rows.old session
-        result keys.new rows.new piece.new out.new }
+    ensures { LoopedOver (R.remaining input.old) (R.remaining input.new) (W.contents output.old) (W.contents output.new)
+        keys.old rows.old session result keys.new rows.new piece.new out.new }
 {
-    let mut handed = turn(keys, rows, session, tables, pipes, piece, out);
+    let mut handed = turn(rt, keys, rows, session, tables, input, output, piece, out);
     let mut left = u64::MAX;
     while 0 < left && goes_on(handed) {
-        let at = handed.session;
-        let next = turn(keys, rows, at, tables, pipes, piece, out);
-        handed = next;
+        handed = turn(
+            rt,
+            keys,
+            rows,
+            handed.session,
+            tables,
+            input,
+            output,
+            piece,
+            out,
+        );
         left -= 1;
     }
     handed

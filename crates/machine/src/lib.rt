@@ -1,5 +1,7 @@
 // State, lists and record together, and one call on them. `Machine` is what the definitions speak of; the running machine is two lent arrays,
 // keys and rows, and the scalars, and `machine_in` in specs/Running.antt says which `Machine` they stand for.
+#![tactic(auto)]
+
 use def::{EvcPm, EvcPoc, EvcRefP, REFP_PLACES};
 use keys::Rest;
 use line::Reply;
@@ -8,7 +10,7 @@ pub mod fields;
 pub mod fresh;
 
 // All that the program keeps from call to call.
-#[derive(Drop)]
+#[derive(Clone, Copy)]
 pub struct Machine {
     pub pm: EvcPm,
     pub refp: [EvcRefP; REFP_PLACES],
@@ -16,21 +18,21 @@ pub struct Machine {
 }
 
 // The reply to a call, with the machine after it.
-#[derive(Drop)]
+#[derive(Clone, Copy)]
 pub struct Stepped {
     pub reply: Reply,
     pub machine: Machine,
 }
 
 // What the running machine keeps beside the lent arrays.
-#[derive(Drop)]
+#[derive(Clone, Copy)]
 pub struct Scalars {
     pub rest: Rest,
     pub poc: EvcPoc,
 }
 
 // The reply to a call on the running machine, with the scalars after it.
-#[derive(Drop)]
+#[derive(Clone, Copy)]
 pub struct Made {
     pub reply: Reply,
     pub scalars: Scalars,

@@ -1,4 +1,6 @@
 // The question why asked of the running machine in a caller's slices, with any bits in them. The library's function for it is thin over this.
+#![tactic(auto)]
+
 ghost use Rattle.std.specs.Prelude.{◌≡◌, List, ℕ, length};
 ghost use Rattle.def.specs.State.{slots};
 ghost use Rattle.reasons.specs.Reasons.{why};

@@ -1,6 +1,8 @@
 // One call on the running machine, by a match on the call: the one road of the program's run, the static library and the calls on an image, but for
 // the library's derivation by numbers (crate `recording`).
 // It works on a state known to be whole, where the call reads it.
+#![tactic(auto)]
+
 ghost use Rattle.std.specs.Prelude.{◌≡◌};
 ghost use Rattle.machine.specs.Running.{reads_state, CallRoom, MakesCall};
 

@@ -1,6 +1,8 @@
 // Marking: which pictures stay references when a picture of layer 0 comes in, and the flush of an IDR picture. The definitions and the theorems
 // about them, and the flush; crates `sweeping` and `limiting` mark. Both go from the keys of the slots into `next`, so that a put that is turned
 // down after them finds the keys as they were.
+#![tactic(auto)]
+
 ghost use Rattle.std.specs.Prelude.{◌≡◌, map, length};
 ghost use Rattle.def.specs.State.{slots};
 ghost use Rattle.keys.specs.Keys.{key_unmarked};

@@ -1,5 +1,7 @@
 // What a word does to a draft where a name may stand: a command, a slice, a picture, or a part of a put or of a list call.
 // `fitting::step` calls these.
+#![tactic(auto)]
+
 ghost use Rattle.std.specs.Prelude.{◌≡◌};
 ghost use Rattle.naming.specs.Names.{command_word, slice_word, picture_word, put_part, list_part};
 

@@ -1,4 +1,6 @@
-// The number of a picture, on layer 0 and on the others, from a record that passed the tests of crate `deriving`, which calls this.
+// The number of a picture, on layer 0 and on the others, from a record that passed the tests of crate `derivation`, which calls this.
+#![tactic(auto)]
+
 ghost use Rattle.std.specs.Prelude.{◌≡◌, ◌≤◌};
 ghost use Rattle.poc.specs.PictureNumber.{key_picture, other_picture, derivation_refused};
 ghost use Rattle.poc.specs.Number.{derived_as};

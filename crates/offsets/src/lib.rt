@@ -1,5 +1,7 @@
 // Offsets of a picture number: the decoding offset of a layer, and what it adds to the previous number, from a table up to length 256 and above
 // in `f32` as the Rust has it.
+#![tactic(auto)]
+
 mod table;
 
 ghost use Rattle.std.specs.Prelude.{◌≡◌, pos};

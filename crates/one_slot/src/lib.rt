@@ -1,5 +1,7 @@
 // The answer for one slot, where the list call is accepted and for slice I, on the keys of the running form, for crate `judging`. The reason of a
 // marked picture comes from `reason_of`.
+#![tactic(auto)]
+
 ghost use Rattle.std.specs.Prelude.{◌≡◌, List, map, ℕ, length, get_or};
 ghost use Rattle.def.specs.State.{slots, no_slot, is_present};
 ghost use Rattle.keys.specs.Keys.{slot_at};

@@ -1,5 +1,7 @@
 // One step of a pass over the ordered pictures, in plain numbers: where the next picture stands, whether it is taken, and the bound after it. Crates
 // `walking`, `reaching` and `weighing` ask this step.
+#![tactic(auto)]
+
 ghost use Rattle.std.specs.Prelude.{◌≡◌, ◌<◌, ltb};
 ghost use Rattle.ordering.specs.InNumbers.{key_in};
 ghost use Rattle.passes.specs.Passes.{below, side_of, takes_key, pass_step};

@@ -1,5 +1,7 @@
 // What the entry points by value share: a state that came is taken apart and tested, one that is not whole is handed back with its refusal, and
 // after a call the state is put together. Crates `starting`, `entry`, `listing` and `explaining` call these.
+#![tactic(auto)]
+
 ghost use Rattle.std.specs.Prelude.{◌≡◌, true};
 ghost use Rattle.def.specs.declared.Refusal.{Refusal};
 ghost use Rattle.keys.specs.Keys.{stands, lists_in, Sized};
@@ -13,7 +15,7 @@ use keys::{Called, Rest};
 use together::put_together;
 
 // Whether a state that came is whole, with the rest of it beside keys and rows.
-#[derive(Drop)]
+#[derive(Clone, Copy)]
 pub struct Opened {
     pub is_whole: bool,
     pub rest: Rest,

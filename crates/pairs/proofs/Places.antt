@@ -5,11 +5,11 @@ use lib.ListN.{get_or-eq_default}
 use Rattle.seq.specs.Lists.{all_of, lowest}
 use Rattle.seq.proofs.Tests.{and_left, and_right}
 use Rattle.seq.proofs.Walks.{lowest-hit, lowest-miss}
-use Rattle.hex.specs.Hex.{is_digit, digit_value, char_value, bytes_of}
-use Rattle.hex.specs.Frame.{byte_at}
+use Rattle.hex_digits.specs.Hex.{is_digit, digit_value, char_value, bytes_of}
+use Rattle.hex_digits.specs.Frame.{byte_at}
 use Rattle.buffer.specs.Buffer.{is_newline}
 use Rattle.pairs.specs.Pairs.{is_pair, pair_at, are_pairs, pairs_at}
-use Rattle.hex.proofs.HexLaws.{digit-fits, each-digit}
+use Rattle.hex_digits.proofs.HexLaws.{digit-fits, each-digit}
 
 -- The value of a digit, as the table has it.
 pub char-digit : (c : ℕ) → is_digit c ≡ true → char_value c ≡ digit_value c

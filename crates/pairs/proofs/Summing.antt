@@ -3,9 +3,9 @@
 use Rattle.std.proofs.Common.{◌≡◌, ℕ, suc, ◌+◌, ◌*◌, ◌%◌, ◌<◌, ◌≤◌, Bool, true, false, ◌&&◌, eqb, List, length, get_or, sym, refl, ap, ◌∙◌, arith}
 use mathlib.Core.Bool.{and-true}
 use lib.ListN.{get_or-eq_default}
-use Rattle.hex.specs.Hex.{sum8}
-use Rattle.hex.specs.Frame.{word_at}
-use Rattle.hex.proofs.HexLaws.{not-second, sum8-append}
+use Rattle.hex_digits.specs.Hex.{sum8}
+use Rattle.hex_digits.specs.Frame.{word_at}
+use Rattle.hex_digits.proofs.HexLaws.{not-second, sum8-append}
 use Rattle.buffer.specs.Buffer.{is_newline}
 use Rattle.pairs.specs.Pairs.{is_pair, pair_at, are_pairs, pairs_at, is_line_at, quad_of, Opened, Summed, PairsChecked}
 use Rattle.pairs.proofs.Places.{pair-entry, pairs-append, pairs-both}

@@ -3,8 +3,8 @@
 -- Assumes nothing.
 use Rattle.std.specs.Prelude.{◌≡◌, ℕ, zero, suc, ◌+◌, ◌*◌, ◌%◌, Bool, true, ◌&&◌, List, [], ◌∷◌, ◌==◌, slice_index}
 use Rattle.pairs.specs.declared.{Pair.Pair, Quad.Quad, Two.Two, Fields.Fields}
-use Rattle.hex.specs.Hex.{is_digit, char_value, word, sum8}
-use Rattle.hex.specs.Frame.{byte_at, word_at}
+use Rattle.hex_digits.specs.Hex.{is_digit, char_value, word, sum8}
+use Rattle.hex_digits.specs.Frame.{byte_at, word_at}
 use Rattle.buffer.specs.Buffer.{is_newline}
 
 -- What two characters from a place on stand for, and whether they are digits.

@@ -1,20 +1,22 @@
 // Pairs of digits where they stand in a buffer: the byte of a pair, and whether a line ends with its check byte and newline. specs/ says what
 // pairs stand for. The `requires` of what reads by table are met by who lends it and has come to a place of the buffer.
+#![tactic(auto)]
+
 ghost use Rattle.std.specs.Prelude.{◌≡◌, ◌+◌, ◌%◌, ◌<◌, length};
-ghost use Rattle.hex.specs.Hex.{char_value, digit_tables};
+ghost use Rattle.hex_digits.specs.Hex.{char_value, digit_tables};
 ghost use Rattle.pairs.specs.Pairs.{pair_of, PairsChecked};
 
 use lookup::TABLE_SIZE;
 
 // The byte that two characters stand for, and whether they are digits.
-#[derive(Drop)]
+#[derive(Clone, Copy)]
 pub struct Pair {
     pub byte: u8,
     pub good: bool,
 }
 
 // The number that eight characters stand for, the sum of its bytes, and whether they are digits.
-#[derive(Drop)]
+#[derive(Clone, Copy)]
 pub struct Quad {
     pub value: u32,
     pub sum: u8,
@@ -22,7 +24,7 @@ pub struct Quad {
 }
 
 // A line with two bytes behind the call byte, and whether it is one.
-#[derive(Drop)]
+#[derive(Clone, Copy)]
 pub struct Two {
     pub byte1: u8,
     pub byte2: u8,
@@ -31,7 +33,7 @@ pub struct Two {
 
 // The fields that a put and a list call have in common, the sum so far, and whether all are digits. `lead` is a put's flags or a list call's slice
 // type, `span` its gap or last intra.
-#[derive(Drop)]
+#[derive(Clone, Copy)]
 pub struct Fields {
     pub lead: u8,
     pub poc: u32,

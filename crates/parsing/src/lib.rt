@@ -1,5 +1,7 @@
 // Call lines read: a body, the bytes of a line, or its characters, as a call or as bad. The program, the library and the writer of call lines
 // read calls by this.
+#![tactic(auto)]
+
 ghost use Rattle.std.specs.Prelude.{◌≡◌, ◌<◌};
 ghost use Rattle.line.specs.Calls.{is_call, call_in, line_for, call_from, read_line};
 
@@ -26,6 +28,7 @@ fn is_call(body: &[u8], call: u8, size: usize) -> bool
 }
 
 // The call that a body stands for, by its call byte and its length.
+#[tactic(auto, unfolding(line::specs::Calls::call_in))]
 pub fn call_in(body: &[u8]) -> Line
     ensures { result ≡ line_for (call_in body.now) }
 {

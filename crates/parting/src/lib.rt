@@ -1,4 +1,6 @@
 // A machine by value as keys, rows and scalars, and put together again. Any machine may be taken apart.
+#![tactic(auto)]
+
 ghost use Rattle.std.specs.Prelude.{◌≡◌};
 ghost use Rattle.keys.specs.Keys.{Sized};
 ghost use Rattle.machine.specs.Running.{machine_in, Runs};

@@ -1,21 +1,17 @@
--- Texts put one behind the other, and the decimal digits of a number as the library counts them.
+-- Texts put one behind the other, and the decimal digits of a number.
 -- Assumes nothing.
-use Prim.Native.Nat.{ℕ, zero, suc, ◌+◌, ◌-◌, ◌*◌, ◌/◌, ◌%◌, ◌^◌, ◌≤◌, ◌<◌}
-use native.Mathlib.Nat.{pow-suc, mod-eq_of_lt, pow-le-pow_right}
-use native.Mathlib.Numerals.{unary_clauses}
+use Prim.Native.Nat.{ℕ, zero, suc, ◌+◌, ◌-◌, ◌/◌, ◌%◌, ◌^◌, ◌≤◌, ◌<◌}
+use native.Mathlib.Nat.{pow-suc}
 use native.Mathlib.Omega.{arith}
 use mathlib.Core.Path.{◌≡◌, sym, ap, ◌∙◌}
 use mathlib.Core.Bool.{cond}
 use mathlib.Core.List.{List, [], ◌∷◌, ◌++◌}
 use mathlib.Core.Bool as Bool
-use mathlib.Core.Logic.{⊎_elim}
 use lib.Dec.{ltb}
 use lib.ListN.{length, length-append, take, drop}
 use lib.Seq.{sets, sets-eq, length-sets, take_all, paste}
 use borrow.Author.Tests.{lt-ltb, le-ltb}
-use Rattle.seq.proofs.Tests.{lt-or-ge}
 use Rattle.seq.proofs.Stores.{sets-append}
-use Rattle.io.specs.Digits.{last_digits, hex_digit_ascii, IsDigitCount}
 use Rattle.phrases.specs.Phrases.{Added, decimal_from}
 
 pub pasted : (bs text : List ℕ) (at : ℕ) → at + length text ≤ length bs → paste bs at text (length text) ≡ sets bs at text
@@ -56,40 +52,23 @@ decimal-fits (suc k) n = by (ltb n 10) (decimal-fits k (n / 10))
     by Bool.true f = omega arith
     by Bool.false f = let e = length-append (decimal_from k (n / 10)) ((48 + n % 10) ∷ []) in omega arith
 
-low : (n : ℕ) → n < 10 → hex_digit_ascii (n % 10) ≡ 48 + n
-low n h = rw (mod-eq_of_lt h, lt-ltb n 10 h)
-
-last : (n : ℕ) → hex_digit_ascii (n % 10) ≡ 48 + n % 10
-last n = rw (lt-ltb (n % 10) 10 (omega arith))
-
--- The digits that the library writes are those of the definition.
-pub fewest-decimal : (r k n : ℕ) → r ≤ k → IsDigitCount 10 1 n r → last_digits 10 r n ≡ decimal_from k n
+pub decimal-low : (k n : ℕ) → 0 < k → n < 10 → decimal_from k n ≡ (48 + n) ∷ []
 unfolding decimal_from
-fewest-decimal zero k n h f = absurd (let a = f.0 in omega arith)
-fewest-decimal (suc r) zero n h f = absurd (omega arith)
-fewest-decimal (suc zero) (suc k) n h f =
-    let small : n < 10 = f.1 in
-    rw (lt-ltb n 10 small) (rw (low n small))
-fewest-decimal (suc (suc r)) (suc k) n h f =
-    let top = pow-suc 10 (suc r) in
-    let step = pow-suc 10 r in
-    let upper : n < 10 ^ suc (suc r) = f.1 in
-    let lower : 10 ^ r * 10 ≤ n = simp unary_clauses at (f.2 (omega arith)) in
-    let some : 1 ≤ 10 ^ r = positive r in
-    let rest = fewest-decimal (suc r) k (n / 10) (omega arith) (omega arith, omega arith, λ _. simp unary_clauses (omega arith)) in
-    rw (le-ltb n 10 (omega arith), rest, last n)
-  where
-    positive : (m : ℕ) → 1 ≤ 10 ^ m
-    positive zero = omega arith
-    positive (suc m) = let e = pow-suc 10 m in let f = positive m in omega arith
+decimal-low zero n h l = absurd (omega arith)
+decimal-low (suc k) n h l = rw (lt-ltb n 10 l)
 
--- Numbers of 64 bits have at most 20 digits.
-pub fewest-most : (r n : ℕ) → IsDigitCount 10 1 n r → n < 2 ^ 64 → r ≤ 20
-fewest-most r n f h = ⊎_elim (λ (l : r < 21). omega arith) (λ (g : 21 ≤ r). absurd (many g)) (lt-or-ge r 21)
-  where
-    many : 21 ≤ r → ⊥
-    many g =
-        let l : 20 ≤ r - 1 = omega arith in
-        let a : 10 ^ 20 ≤ 10 ^ (r - 1) = pow-le-pow_right (omega arith) {i = 20} {j = r - 1} l in
-        let b = f.2 (omega arith) in
-        omega arith
+pub decimal-more : (k n : ℕ) → 0 < k → 10 ≤ n → decimal_from k n ≡ decimal_from (k - 1) (n / 10) ++ ((48 + n % 10) ∷ [])
+unfolding decimal_from
+decimal-more zero n h l = absurd (omega arith)
+decimal-more (suc k) n h l =
+    let e : suc k - 1 ≡ k = omega arith in
+    rw (le-ltb n 10 l, e)
+
+-- Without its last digit a number has one digit less.
+pub fewer-digits : (k n : ℕ) → 10 ≤ n → n < 10 ^ k → (1 < k) × (n / 10 < 10 ^ (k - 1))
+fewer-digits zero n l h = absurd (omega arith)
+fewer-digits (suc zero) n l h = absurd (omega arith)
+fewer-digits (suc (suc k)) n l h =
+    let p = pow-suc 10 (suc k) in
+    let e : suc (suc k) - 1 ≡ suc k = omega arith in
+    (omega arith, rw e (omega arith))

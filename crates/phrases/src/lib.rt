@@ -1,6 +1,8 @@
 // Texts put one behind the other into a lent buffer: given bytes, decimal numbers, and entries of a flat table.
-ghost use Rattle.std.specs.Prelude.{◌+◌, ◌*◌, ◌≤◌, length};
-ghost use Rattle.phrases.specs.Phrases.{Added, decimal, entry_of};
+#![tactic(auto)]
+
+ghost use Rattle.std.specs.Prelude.{◌+◌, ◌*◌, ◌^◌, ◌<◌, ◌≤◌, length};
+ghost use Rattle.phrases.specs.Phrases.{Added, decimal, decimal_from, entry_of};
 
 use buffer::paste;
 
@@ -17,15 +19,28 @@ pub fn add(out: &mut [u8], at: usize, text: &[u8]) -> usize
     at + n
 }
 
+// A number in decimal, of no more digits than are given.
+fn add_digits(out: &mut [u8], at: usize, n: u64, most: usize) -> usize
+    requires room { at + most ≤ length out.old }
+    requires enough { (0 < most) × (n < 10 ^ most) }
+    ensures added { Added out.old at (decimal_from most n) result out.new }
+    ensures short { result ≤ at + most }
+{
+    let fewer = most - 1;
+    if n < 10 {
+        return add(out, at, &[b'0' + n as u8]);
+    }
+    let next = add_digits(out, at, n / 10, fewer);
+    add(out, next, &[b'0' + (n % 10) as u8])
+}
+
 // A number in decimal.
 pub fn add_number(out: &mut [u8], at: usize, n: u64) -> usize
     requires { at + 20 ≤ length out.old }
     ensures added { Added out.old at (decimal n) result out.new }
     ensures short { result ≤ at + 20 }
 {
-    let mut digits = [0u8; MOST_DIGITS];
-    let k = io::decimal(n, &mut digits);
-    add(out, at, &digits[..k])
+    add_digits(out, at, n, MOST_DIGITS)
 }
 
 // An entry of a table whose entries have one width and lengths of their own.

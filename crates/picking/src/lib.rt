@@ -1,10 +1,12 @@
 // The fields of a call line picked by table from where it stands in a buffer: none, two bytes, or those that a put and a list call have in
 // common. The scan of a buffer calls this; it lends the table and has come to the place.
+#![tactic(auto)]
+
 ghost use Rattle.std.specs.Prelude.{◌≡◌, ◌+◌, ◌≤◌, ◌<◌, length};
-ghost use Rattle.hex.specs.Hex.{digit_tables};
+ghost use Rattle.hex_digits.specs.Hex.{digit_tables};
 ghost use Rattle.pairs.specs.Pairs.{is_line_at, quad_of, Opened, TwoSeen, FieldsSeen};
 
-use hex::word;
+use hex_digits::word;
 use lookup::TABLE_SIZE;
 use pairs::{Fields, Quad, Two, check_at, pair_at, plus};
 

@@ -1,6 +1,8 @@
 // The program: calls from standard input, one a line, and their answers to standard output.
-use libc::{STDIN_FILENO, STDOUT_FILENO};
+#![tactic(auto)]
 
-fn main() {
-    serve::serve(STDIN_FILENO, STDOUT_FILENO);
+use serve::serve;
+
+fn main(rt: HostRuntime) {
+    let _ = serve(&rt, &mut rt.stdin(), &mut rt.stdout());
 }

@@ -1,6 +1,8 @@
 // The static library for C and Rust: functions over lent memory, thin over the crates below. Here are those on an image and on the depth
 // tables; those on the running machine stand in `arrays`, those that load and save an image in `exchanged`, the group planner in `plan`, and
 // those on answer lines and call lines in `lines`. Where a size or a flag byte does not fit, a function gives 18 and writes nothing.
+#![tactic(auto)]
+
 pub mod arrays;
 pub mod exchanged;
 pub mod lines;

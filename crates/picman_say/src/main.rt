@@ -1,13 +1,15 @@
 // The program: answer lines from standard input, and their words to standard output.
-use delivering::Pipes;
-use libc::{STDERR_FILENO, STDIN_FILENO, STDOUT_FILENO};
+#![tactic(auto)]
+
+use relaying::relay;
 use telling::Kind;
 
-fn main() {
-    let pipes = Pipes {
-        input: STDIN_FILENO,
-        output: STDOUT_FILENO,
-        errors: STDERR_FILENO,
-    };
-    relaying::relay(Kind::Say, pipes);
+fn main(rt: HostRuntime) {
+    let _ = relay(
+        &rt,
+        Kind::Say,
+        &mut rt.stdin(),
+        &mut rt.stdout(),
+        &mut rt.stderr(),
+    );
 }

@@ -1,4 +1,6 @@
 // The second part of a put: the leased picture goes into the store. Where it finds no place the keys stay as they were.
+#![tactic(auto)]
+
 ghost use Rattle.std.specs.Prelude.{◌≡◌, true, ◌<◌, length};
 ghost use Rattle.def.specs.State.{slots};
 ghost use Rattle.keys.specs.Keys.{key_present, lists_in, stands, Sized};

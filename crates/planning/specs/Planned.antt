@@ -34,8 +34,8 @@ plan_bytes p =
 
 -- 0 with the record after and the plan; a refusal writes nothing.
 abbrev pub shown_plan : PlanAnswer → EvcPoc → List ℕ → List ℕ → PlanLeft
-shown_plan (PlanAnswer.Planned p) r record_bytes plan_bytes = plan_left 0 (poc_bytes r) (plan_bytes p)
-shown_plan (PlanAnswer.Refused why) r record_bytes plan_bytes = plan_left (refusal_number why) record_bytes plan_bytes
+shown_plan (PlanAnswer.Planned p) r bs ps = plan_left 0 (poc_bytes r) (plan_bytes p)
+shown_plan (PlanAnswer.Refused why) r bs ps = plan_left (refusal_number why) bs ps
 
 abbrev pub shown_planning : Planning → List ℕ → List ℕ → PlanLeft
 shown_planning x record_bytes plan_bytes = shown_plan x.answer x.poc record_bytes plan_bytes

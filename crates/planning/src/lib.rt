@@ -1,5 +1,7 @@
 // The group planner on a record of 12 bytes and a plan of 7 that the caller lends, for the library's `picman_plan`. Where a size or the byte
 // for the hierarchy does not fit it gives 18; that and every other refusal writes nothing.
+#![tactic(auto)]
+
 ghost use Rattle.std.specs.Prelude.{◌≡◌, length};
 ghost use Rattle.words.specs.Words.{poc_width, poc_bytes};
 ghost use Rattle.planning.specs.Planned.{plan_left, slice_byte, plan_width, plan_bytes, shown_plan, plan_called};
@@ -59,6 +61,7 @@ fn show_plan(poc: &mut [u8], plan: &mut [u8], answer: PlanAnswer, after: EvcPoc)
 }
 
 // Plans one picture: 0, or the refusal.
+#[tactic(auto, unfolding(crate::specs::Planned::plan_called))]
 pub fn plan_picture(
     count: u64,
     gop_size: u64,

@@ -1,4 +1,6 @@
 // How far a draft is: begun, a part marked, failed by a word that does not fit, complete. Crates `naming`, `fitting` and `commands` call these.
+#![tactic(auto)]
+
 ghost use Rattle.std.specs.Prelude.{◌≡◌, ◌<◌};
 ghost use Rattle.progress.specs.Progress.{begun, failed, marked, is_complete};
 

@@ -1,5 +1,7 @@
 // Put: marking, then the leased picture goes into the store. Marking goes into keys of its own, so that a put that is turned down after it finds
 // the keys as they were; they are made only where the put marks.
+#![tactic(auto)]
+
 ghost use Rattle.std.specs.Prelude.{◌≡◌, true, List, ℕ, ◌<◌, length};
 ghost use Rattle.def.specs.State.{slots};
 ghost use Rattle.keys.specs.Keys.{rows_length, lists_in, stands, Sized, Comes};

@@ -1,6 +1,8 @@
 // The question why a picture is or is not in the forward list, as bytes, for the library: the bytes of a list call's line, check byte too, and a
 // slot, of an image or of the running machine. State and lists are only read. Two lent bytes get the reason; where a size, a flag byte or the
 // call does not fit 18 is given, and that and every other refusal writes nothing.
+#![tactic(auto)]
+
 ghost use Rattle.std.specs.Prelude.{◌≡◌, length};
 ghost use Rattle.line.specs.Calls.{call_from};
 ghost use Rattle.reasons.specs.Reasons.{why};
@@ -15,7 +17,7 @@ use reasons::{Reason, WhyAnswer};
 pub const REASON_LENGTH: usize = 2;
 
 // What a call asks here: why, of a list request, or nothing.
-#[derive(Drop)]
+#[derive(Clone, Copy)]
 pub enum Question {
     Lists(RefpCall),
     Other,

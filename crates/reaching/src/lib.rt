@@ -1,5 +1,7 @@
 // How far the passes of a list have come when a picture has its turn, and the reason for the picture there, for crate `one_slot`. Each step of a
 // pass is `pass_step`.
+#![tactic(auto)]
+
 ghost use Rattle.std.specs.Prelude.{◌≡◌, true, List, ℕ, ◌<◌};
 ghost use Rattle.def.specs.State.{slots};
 ghost use Rattle.keys.specs.Keys.{slot_at};

@@ -13,8 +13,8 @@ use Rattle.seq.specs.Lists.{all_of, lowest}
 use Rattle.seq.proofs.Walks.{lowest-le}
 use Rattle.buffer.specs.Buffer.{newline, is_newline, lines_from, line_end, line_at}
 use Rattle.buffer.proofs.Lines.{first-line}
-use Rattle.hex.specs.Hex.{digits_of, bytes_of, sum8}
-use Rattle.hex.specs.Frame.{body_of, from_line}
+use Rattle.hex_digits.specs.Hex.{digits_of, bytes_of, sum8}
+use Rattle.hex_digits.specs.Frame.{body_of, from_line}
 use Rattle.framing.proofs.Standing.{framed-end}
 use Rattle.line.specs.declared.Reply.{Reply}
 use Rattle.line.specs.Answers.{reply_bytes, answer_kind, answer_digits, answer_line}

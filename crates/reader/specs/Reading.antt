@@ -4,8 +4,8 @@
 use Rattle.std.specs.Prelude.{ℕ, zero, suc, ◌+◌, cond, List, [], ◌∷◌, ltb, length}
 use Rattle.seq.specs.Lists.{lowest}
 use Rattle.answers.specs.declared.AnswerLine.{AnswerLine}
-use Rattle.hex.specs.Hex.{bytes_of, sum8}
-use Rattle.hex.specs.Frame.{body_of, from_line}
+use Rattle.hex_digits.specs.Hex.{bytes_of, sum8}
+use Rattle.hex_digits.specs.Frame.{body_of, from_line}
 use Rattle.buffer.specs.Buffer.{line_end, line_at}
 use Rattle.line.specs.Answers.{answer_kind}
 use Rattle.answers.specs.Answers.{answer_for}

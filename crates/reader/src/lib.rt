@@ -1,6 +1,8 @@
 // A reader of answer lines: it walks a lent buffer and remembers how far it has come. The functions on a slice and a position do the work and
 // serve every caller that keeps its own position; the struct is thin over them, since what works on a struct that holds a reference is proved
 // by hand.
+#![tactic(auto)]
+
 ghost use Rattle.std.specs.Prelude.{◌≡◌};
 ghost use Rattle.reader.specs.Reading.{read_for, answer_at, after_line};
 
@@ -9,7 +11,7 @@ use buffer::line_end;
 use line::Reply;
 
 // What stands where the reader stands.
-#[derive(Drop)]
+#[derive(Clone, Copy)]
 pub enum Read {
     Answer(Reply),
     // No answer line: refusal 18, with the place of the line's first byte, counted from 0.
@@ -51,7 +53,7 @@ pub fn after_line(lines: &[u8], at: usize) -> usize
     end
 }
 
-#[derive(Drop)]
+#[derive(Clone, Copy)]
 pub struct AnswerReader<'a> {
     pub lines: &'a [u8],
     pub at: usize,

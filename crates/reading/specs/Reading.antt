@@ -1,17 +1,21 @@
 -- Which reads are repeated.
 -- Assumes nothing.
-use Rattle.std.specs.Prelude.{◌≡◌, Bool, true, false, ◌&&◌, eqb, ℤ, pos, negsuc}
-use Rattle.std.specs.Int.Signed.{lt_z}
+use Rattle.std.specs.Prelude.{◌≡◌, ℕ, Ok, Err, Result}
+use Rattle.std.specs.IoError.{error_kind}
+use Rattle.std.specs.declared.io.Error.{Error}
+use Rattle.std.specs.declared.io.ErrorKind.TheVariants.{Interrupted}
 use Rattle.reading.specs.declared.Heard.{Heard}
 
--- The error of a call that a signal interrupted, `EINTR`.
-abbrev pub is_signal : ℤ → Bool
-is_signal (pos n) = eqb n 4
-is_signal (negsuc n) = false
-
-abbrev pub is_interrupted : ℤ → ℤ → Bool
-is_interrupted got error = lt_z got (pos 0) && is_signal error
+-- Whether a signal interrupted the call.
+abbrev pub IsInterrupted : Result ℕ Error → Type 0
+IsInterrupted (Ok n) = ⊥
+IsInterrupted (Err e) = error_kind e ≡ Interrupted
 
 -- A read that was interrupted is answered only where no repeat was left.
 abbrev pub Patient : Heard → Type 0
-Patient h = is_interrupted h.got h.error ≡ true → h.repeats ≡ 0
+Patient h = IsInterrupted h.answer → h.repeats ≡ 0
+
+-- How many bytes a read brought.
+abbrev pub brought : Result ℕ Error → ℕ
+brought (Ok n) = n
+brought (Err e) = 0

@@ -1,9 +1,11 @@
 // Why a picture of the state is or is not in the forward list that a list call builds: the answers. What they mean, and what is claimed of
 // them, stands in specs/; crate `judging` finds the answer.
+#![tactic(auto)]
+
 use def::Refusal;
 
 // The earliest of these that holds is the answer, but for the last.
-#[derive(Drop)]
+#[derive(Clone, Copy)]
 pub enum Reason {
     // Taken, at this place of the forward list, counted from 0.
     Taken(u8),
@@ -23,7 +25,7 @@ pub enum Reason {
     NoListAsked,
 }
 
-#[derive(Drop)]
+#[derive(Clone, Copy)]
 pub enum WhyAnswer {
     Told(Reason),
     Refused(Refusal),

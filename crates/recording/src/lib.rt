@@ -1,6 +1,8 @@
 // A derivation on the running machine, for callers that cannot promise anything: it reads and writes the record's three registers and looks at
 // nothing else, since a derivation tests no state. Answer and machine are those of the road that every other call takes (crate `running`), most of
 // which would be in vain here.
+#![tactic(auto)]
+
 ghost use Rattle.std.specs.Prelude.{◌≡◌, List, ℕ, length};
 ghost use Rattle.keys.specs.Keys.{Sized};
 ghost use Rattle.registers.specs.Registers.{registers_length};
@@ -13,7 +15,7 @@ ghost use Rattle.recording.specs.Recorded.{Recorded};
 use answering::answer_word;
 use def::word::twos_complement;
 use def::{EvcPoc, is_refusal_number};
-use deriving::poc_derivation;
+use derivation::poc_derivation;
 use line::{Reply, bad_line_reply};
 use machine::fields::derived_reply;
 use registers::poc_of;

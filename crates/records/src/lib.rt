@@ -1,6 +1,8 @@
 // Signed numbers, and the picture number record, read from bytes that the caller lends and written into them; the bytes before and behind
 // stay. The image and the planner have such records; they have tested the lengths.
 // `Stored bs at ys n after` says: after is bs with ys, n bytes, stored from place at on.
+#![tactic(auto)]
+
 ghost use Rattle.std.specs.Prelude.{◌≡◌, ◌+◌, ◌≤◌, length};
 ghost use Rattle.seq.specs.Lists.{Stored};
 ghost use Rattle.def.specs.Word.{word_bytes, twos_complement};
@@ -18,6 +20,7 @@ pub fn write_signed(bytes: &mut [u8], at: usize, z: i32)
     write_word(bytes, at, twos_complement(z));
 }
 
+#[tactic(auto, unfolding(words::specs::Words::poc_at))]
 pub fn read_poc_at(bytes: &[u8], at: usize) -> EvcPoc
     requires { at + poc_width ≤ length bytes.now }
     ensures { result ≡ poc_at bytes.now at }

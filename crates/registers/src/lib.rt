@@ -1,5 +1,7 @@
 // The scalars of the running machine as thirteen numbers, for callers in C: the lease's key in two halves, the next output number, the
 // record, and the seven counts. Any numbers may stand there; `rest_of` and `poc_of` in specs/Registers.antt say what they are read as.
+#![tactic(auto)]
+
 ghost use Rattle.std.specs.Prelude.{◌≡◌, ◌<◌, min, length};
 ghost use Rattle.registers.specs.Registers.{registers_length, highest_count, rest_of, poc_of, registers_of};
 

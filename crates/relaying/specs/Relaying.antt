@@ -1,11 +1,11 @@
 -- What the loop of a program that tells lines hands on, from the start.
 -- Assumes nothing.
-use Rattle.std.specs.Prelude.{ℕ, List, replicate}
+use Rattle.std.specs.Prelude.{ℕ, ◌<◌, List, replicate, Option}
 use Rattle.spots.specs.declared.Spot.{Spot}
 use Rattle.telling.specs.declared.Kind.{Kind}
 use Rattle.telling.specs.Telling.{kept}
 use Rattle.delivering.specs.declared.Handed.{Handed}
-use Rattle.conveying.specs.Conveying.{Relayed}
+use Rattle.conveying.specs.Conveying.{Relayed, RelayedOver}
 
 -- The loop starts with nothing held, at line 1.
 abbrev pub new_held : List ℕ
@@ -18,3 +18,11 @@ pub record RelayedNew (kind : Kind) (t : Handed) : Type 0 where
   pub out' : List ℕ
   pub err' : List ℕ
   pub relayed : Relayed kind new_held new_spot t out' err'
+
+-- What was read and written of it; a read brings at most `size` bytes.
+pub record PassedNew (left left' wrote wrote' said said' : Option (List ℕ)) (kind : Kind) (t : Handed) : Type 0 where
+  pub out' : List ℕ
+  pub err' : List ℕ
+  pub size : ℕ
+  pub some_room : 0 < size
+  pub passed : RelayedOver left left' wrote wrote' said said' size kind new_held new_spot t out' err'

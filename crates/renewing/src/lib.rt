@@ -1,4 +1,6 @@
 // The new machine, which is all zero, written over whatever stood there.
+#![tactic(auto)]
+
 ghost use Rattle.std.specs.Prelude.{◌≡◌, length, replicate};
 ghost use Rattle.machine.specs.Lent.{slices};
 ghost use Rattle.renewing.specs.Renewed.{Renewed};

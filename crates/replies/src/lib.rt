@@ -1,9 +1,11 @@
 // An answer's eight bytes, check byte last, and its line in hex. The library hands out the bytes.
+#![tactic(auto)]
+
 ghost use Rattle.std.specs.Prelude.{◌≡◌};
-ghost use Rattle.hex.specs.Frame.{with_check};
+ghost use Rattle.hex_digits.specs.Frame.{with_check};
 ghost use Rattle.line.specs.Answers.{reply_bytes, answer_line};
 
-use hex::{high_digit, low_digit};
+use hex_digits::{high_digit, low_digit};
 use line::Reply;
 use summing::{check_byte, sum8};
 

@@ -1,5 +1,7 @@
 // What a slice asks of the ordered pictures, in plain numbers: by its type, its layer and the last intra picture. Crates `choosing` and `reaching`
 // walk with what it gives.
+#![tactic(auto)]
+
 ghost use Rattle.std.specs.Prelude.{◌≡◌, ltb};
 ghost use Rattle.ordering.specs.Order.{Key};
 ghost use Rattle.ruling.specs.Rules.{is_old, rule_p, rule_b, ask_for, ask_of};

@@ -12,7 +12,7 @@ use Rattle.line.specs.Lines.{is_newline}
 use Rattle.machine.specs.Claims.{Sound}
 use Rattle.machine.proofs.EveryCall.{line-sound, new-sound, line-not-seven}
 use Rattle.run.specs.declared.Session.{Session}
-use Rattle.run.specs.Run.{Runner, Fed, end_line, extend_line, feed, feed_pieces, finish, start}
+use Rattle.run.specs.Run.{Runner, Fed, end_line, extend_line, feed_byte, feed, feed_pieces, finish, start}
 use Rattle.run.specs.Session.{runner_in, NewSession, new_keys, new_rows}
 use Rattle.run.specs.Claims.{Over, at_end, after_piece, RunWrites, RunSound, RunNotSeven}
 use Rattle.run.specs.Partial.{kept_length}
@@ -62,7 +62,7 @@ byte-sound r c s false = s
 feed-sound : (r : Runner) (cs : List ℕ) → Sound r.machine → Sound (feed r cs).runner.machine
 unfolding feed
 feed-sound r [] s = s
-feed-sound r (c ∷ cs) s = feed-sound _ cs (byte-sound r c s (is_newline c))
+feed-sound r (c ∷ cs) s = feed-sound (feed_byte r c).runner cs (byte-sound r c s (is_newline c))
 
 pub run_sound : RunSound
 run_sound input = feed-sound start input new-sound

@@ -2,15 +2,15 @@
 -- Assumes nothing.
 use Prim.Native.Nat.{ℕ}
 use native.Mathlib.Omega.{arith}
-use mathlib.Core.Path.{◌≡◌, refl, sym, ◌∙◌}
+use mathlib.Core.Path.{◌≡◌, refl, sym}
 use mathlib.Core.List.{List, [], ◌∷◌}
 use lib.ListN.{length}
 use lib.Seq.{length-take-le}
 use Rattle.line.specs.Lines.{newline}
 use Rattle.run.specs.declared.{Session.Session, Ran.Ran}
-use Rattle.run.specs.Run.{lacked_newline, feed, finish}
+use Rattle.run.specs.Run.{lacked_newline, feed}
 use Rattle.run.specs.Partial.{held_line, Room}
-use Rattle.run.specs.Session.{SoundSession, runner_in, RanOver, EndedOver}
+use Rattle.run.specs.Session.{SoundSession, RanOver, EndedOver}
 
 module _ (keys rows : List ℕ) (s : Session) (out : List ℕ) where
   -- Nothing is written, and all is as it was.

@@ -75,7 +75,7 @@ unfolding feed
 feed-alike [] a = record { runners = a; written = refl }
 feed-alike {r} {s} (c ∷ cs) a =
     let n = byte-alike c a in
-    let f = feed-alike cs n.runners in
+    let f = feed-alike {r = (feed_byte r c).runner} {s = (feed_byte s c).runner} cs n.runners in
     record { runners = f.runners; written = join n.written f.written }
 
 pub finish-alike : {r s : Runner} → Alike r s → finish r ≡ finish s

@@ -10,7 +10,7 @@ use lib.Seq.{take_all, drop-drop, drop-paste, length-take-le, paste, take-paste,
 use Rattle.seq.specs.Lists.{lowest}
 use Rattle.line.specs.declared.Line.{Line}
 use Rattle.line.specs.declared.Reply.{Reply}
-use Rattle.hex.specs.Hex.{digits_of}
+use Rattle.hex_digits.specs.Hex.{digits_of}
 use Rattle.line.specs.Calls.{read_line}
 use Rattle.line.specs.Lines.{is_newline, line_end, line_at}
 use Rattle.line.specs.Answers.{answer_digits, answer_line}

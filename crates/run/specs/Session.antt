@@ -3,7 +3,7 @@
 use Rattle.std.specs.Prelude.{ℕ, ◌+◌, ◌*◌, ◌≤◌, ◌≡◌, true, List, [], ◌++◌, ltb, length, take, drop, replicate}
 use Rattle.keys.specs.Keys.{rows_length}
 use Rattle.def.specs.State.{slots}
-use Rattle.hex.specs.Hex.{digit_tables}
+use Rattle.hex_digits.specs.Hex.{digit_tables}
 use Rattle.line.specs.Calls.{read_line}
 use Rattle.line.specs.Lines.{line_end, line_at}
 use Rattle.machine.specs.Running.{machine_in, new_scalars, Runs}

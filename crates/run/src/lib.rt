@@ -1,10 +1,12 @@
 // A run over the input, piece by piece: each complete line is read, its call made, and its answer written behind the others.
 // `program` in specs/Run.antt is what a run writes for a whole input; `run-writes` in specs/Claims.antt says that every way of cutting the
 // input into pieces comes to it.
+#![tactic(auto)]
+
 pub mod partial;
 
 ghost use Rattle.std.specs.Prelude.{◌≡◌, ◌≤◌, length};
-ghost use Rattle.hex.specs.Hex.{digit_tables};
+ghost use Rattle.hex_digits.specs.Hex.{digit_tables};
 ghost use Rattle.line.specs.Answers.{bad_line_reply};
 ghost use Rattle.machine.specs.Step.{step_line};
 ghost use Rattle.machine.specs.Running.{machine_in, Runs, Makes};
@@ -22,21 +24,21 @@ use scan::read_line_at;
 use writing::write_reply;
 
 // What goes from piece to piece beside the lent arrays: the machine's scalars, and the line that is not finished yet.
-#[derive(Drop)]
+#[derive(Clone, Copy)]
 pub struct Session {
     pub scalars: Scalars,
     pub partial: Partial,
 }
 
 // The session after a piece or after the end of the input, and how many bytes of answers were written.
-#[derive(Drop)]
+#[derive(Clone, Copy)]
 pub struct Ran {
     pub session: Session,
     pub len: usize,
 }
 
 // The next line, if it ends inside the piece: what it says, and the place behind its newline.
-#[derive(Drop)]
+#[derive(Clone, Copy)]
 struct NextLine {
     complete: bool,
     line: Line,

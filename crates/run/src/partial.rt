@@ -10,7 +10,7 @@ use parsing::{LONGEST_LINE, read_line};
 
 pub const KEPT: usize = LONGEST_LINE + 1;
 
-#[derive(Drop)]
+#[derive(Clone, Copy)]
 pub struct Partial {
     pub bytes: [u8; KEPT],
     pub len: usize,

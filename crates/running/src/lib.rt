@@ -2,6 +2,8 @@
 // stand in them and every call ends. A wrong size is answered as a bad line is, with 18, a state that is not whole with 7, and a line that is
 // turned down leaves every number as it was. The static library's calls take the one road of `reply_on`, all but the
 // derivation by numbers (crate `recording`).
+#![tactic(auto)]
+
 ghost use Rattle.std.specs.Prelude.{◌≡◌, length};
 ghost use Rattle.keys.specs.Keys.{Sized};
 ghost use Rattle.registers.specs.Registers.{registers_length};

@@ -2,8 +2,8 @@
 -- Assumes nothing.
 use Rattle.std.specs.Prelude.{ℕ, cond, not, List, [], ◌∷◌, ◌++◌, ltb, eqb, get_or}
 use Rattle.phrases.specs.Phrases.{chars, decimal_from, decimal}
-use Rattle.hex.specs.Hex.{bytes_of, sum8}
-use Rattle.hex.specs.Frame.{body_of, from_line}
+use Rattle.hex_digits.specs.Hex.{bytes_of, sum8}
+use Rattle.hex_digits.specs.Frame.{body_of, from_line}
 use Rattle.line.specs.declared.Reply.{Reply}
 use Rattle.line.specs.Answers.{answer_kind, no_buffer}
 use Rattle.answers.specs.declared.AnswerLine.{AnswerLine}

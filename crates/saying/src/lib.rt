@@ -1,4 +1,6 @@
 // Words for answers: an answer line as a person would put it, or that it is none.
+#![tactic(auto)]
+
 ghost use Rattle.std.specs.Prelude.{◌+◌, ◌≤◌, ◌<◌, length};
 ghost use Rattle.phrases.specs.Phrases.{Added};
 ghost use Rattle.saying.specs.Words.{call_name, turned_down, done_words, status_words, answer_words, bad_line_words, said_line};

@@ -15,10 +15,10 @@ use Rattle.seq.proofs.Tests.{and_left, and_right}
 use Rattle.seq.proofs.Walks.{lowest-le, lowest-passes}
 use Rattle.line.specs.declared.Call.{Call}
 use Rattle.line.specs.declared.Line.{Line}
-use Rattle.line.specs.declared.Line.TheVariants.{Good, Bad}
+use Rattle.line.specs.declared.Line.TheVariants.{Bad}
 use Rattle.line.specs.declared.LineAt.{LineAt}
-use Rattle.hex.specs.Hex.{is_digit, is_hex, sum8}
-use Rattle.hex.specs.Frame.{body_of}
+use Rattle.hex_digits.specs.Hex.{is_digit, is_hex, sum8}
+use Rattle.hex_digits.specs.Frame.{body_of}
 use Rattle.line.specs.Calls.{call_in, line_for, call_from, read_line}
 use Rattle.buffer.specs.Buffer.{is_newline, line_end, line_at}
 use Rattle.line.specs.Lines.{whole_line, call_at}

@@ -13,10 +13,10 @@ use Rattle.seq.proofs.Tests.{and_left, and_right}
 use Rattle.line.specs.declared.Call.{Call}
 use Rattle.line.specs.declared.Call.TheVariants.{Init, GetEmptyPic, PutPic, OutPic, RefpInit, PocDerivation}
 use Rattle.line.specs.declared.LineAt.{LineAt}
-use Rattle.hex.specs.Hex.{is_digit, digit_value, char_value}
-use Rattle.hex.specs.Frame.{byte_at, word_at}
+use Rattle.hex_digits.specs.Hex.{is_digit, digit_value, char_value}
+use Rattle.hex_digits.specs.Frame.{byte_at, word_at}
 use Rattle.line.specs.Calls.{bad_flags, lists_in, call_in}
-use Rattle.hex.proofs.HexLaws.{each-digit}
+use Rattle.hex_digits.proofs.HexLaws.{each-digit}
 use Rattle.line.specs.Lines.{call_at}
 use Rattle.pairs.specs.Pairs.{is_pair, pair_at, are_pairs, pairs_at, is_line_at, Opened}
 use Rattle.pairs.proofs.Places.{pair-value, pairs-length, pair-entry}

@@ -1,7 +1,9 @@
 // A good call line read where it stands in a buffer, by the fixed length of its kind: no search for the newline, and no copy.
 // The public function's `requires` are met by who lends the table and has come to a place of the buffer.
+#![tactic(auto)]
+
 ghost use Rattle.std.specs.Prelude.{◌≡◌, ◌+◌, ◌≤◌, ◌<◌, length};
-ghost use Rattle.hex.specs.Hex.{digit_tables};
+ghost use Rattle.hex_digits.specs.Hex.{digit_tables};
 ghost use Rattle.line.specs.Lines.{call_at};
 ghost use Rattle.pairs.specs.Pairs.{Opened};
 

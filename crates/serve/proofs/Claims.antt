@@ -1,7 +1,6 @@
 -- What the loop gives to be written is what the program writes, and what it leaves at the end of the input.
 -- Assumes nothing.
-use mathlib.Core.Path.{◌≡◌, ap, ◌∙◌}
-use lib.ListN.{take}
+use Rattle.std.proofs.Common.{◌≡◌, take, ap, ◌∙◌}
 use Rattle.run.specs.Run.{Fed, program, feed, finish, start, joined}
 use Rattle.run.proofs.Kept.{finish-alike}
 use Rattle.run.proofs.Pieces.{feed-answers}

@@ -1,2 +1,3 @@
-mod Serving
+pub mod Serving
 pub mod Claims
+pub mod Writes

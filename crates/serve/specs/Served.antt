@@ -1,12 +1,14 @@
 -- The program's loop: the turns, and at the end of the input its last line.
 -- Assumes nothing.
-use Rattle.std.specs.Prelude.{ℕ, ◌≡◌, Bool, true, false, List}
+use Rattle.std.specs.Prelude.{ℕ, ◌≡◌, ◌<◌, Bool, true, false, List, ◌++◌, length, take, Option}
+use Rattle.std.specs.Io.KnownBytes.{Consumes, IsAtEnd}
 use Rattle.run.specs.declared.Session.{Session}
+use Rattle.run.specs.Run.{joined}
 use Rattle.run.specs.Session.{NewSession, new_keys, new_rows}
 use Rattle.giving.specs.declared.{Went.Went, Handed.Handed}
 use Rattle.giving.specs.declared.Went.TheVariants.{On, InputEnded, ReadFailed, WriteFailed, LastWriteFailed}
-use Rattle.giving.specs.Giving.{Finished}
-use Rattle.looping.specs.Loop.{Looped}
+use Rattle.giving.specs.Giving.{Finished, Wrote}
+use Rattle.looping.specs.Loop.{Looped, LoopedOver}
 
 -- Whether the input has ended.
 abbrev pub is_end : Went → Bool
@@ -44,3 +46,20 @@ pub record ServedNew (t : Handed) : Type 0 where
   pub out' : List ℕ
   pub new : NewSession session
   pub served : Served t.went new_keys new_rows session t keys' rows' piece' out'
+
+-- The input has ended, it is all that the reader had, and the writer got what was given, or a beginning of it where the last write failed.
+pub record EndedOver (left left' held held' : Option (List ℕ)) (keys rows : List ℕ) (s : Session) (t : Handed) (keys' rows' piece' out' : List ℕ)
+    : Type 0 where
+  pub ended : Ended keys rows s t keys' rows' out'
+  pub reads : Consumes left left' (joined ended.looped.pieces)
+  pub writes : Wrote t.went held held' (ended.looped.given ++ take t.written out')
+  pub at_end : 0 < length piece' → IsAtEnd left'
+
+-- What the loop hands on, and what it read and wrote, by how it ended.
+abbrev pub Passed : Went → Option (List ℕ) → Option (List ℕ) → Option (List ℕ) → Option (List ℕ) → List ℕ → List ℕ → Session → Handed
+    → List ℕ → List ℕ → List ℕ → List ℕ → Type 0
+Passed On left left' held held' keys rows s t keys' rows' piece' out' = LoopedOver left left' held held' keys rows s t keys' rows' piece' out'
+Passed ReadFailed left left' held held' keys rows s t keys' rows' piece' out' = LoopedOver left left' held held' keys rows s t keys' rows' piece' out'
+Passed WriteFailed left left' held held' keys rows s t keys' rows' piece' out' = LoopedOver left left' held held' keys rows s t keys' rows' piece' out'
+Passed InputEnded left left' held held' keys rows s t keys' rows' piece' out' = EndedOver left left' held held' keys rows s t keys' rows' piece' out'
+Passed LastWriteFailed left left' held held' keys rows s t keys' rows' piece' out' = EndedOver left left' held held' keys rows s t keys' rows' piece' out'

@@ -1,16 +1,21 @@
-// Calls from one descriptor, answers to another: the program's loop. The answers to the lines that a read completed are written before the
+// Calls from a reader, answers to a writer: the program's loop. The answers to the lines that a read completed are written before the
 // next read, so a pipe whose other end waits for each answer is served. A read that a signal interrupts is repeated. A read or a write that
 // fails is said on standard error, with the system's words, and ends the loop.
-ghost use Rattle.std.specs.Prelude.{◌≡◌};
+#![tactic(auto)]
+
+ghost use Rattle.std.specs.Prelude.{◌≡◌, ◌<◌, length, IfSome};
+ghost use Rattle.std.specs.Io.KnownBytes.{Appends};
+ghost use Rattle.run.specs.Run.{program};
+ghost use Rattle.pouring.specs.Pouring.{AppendsFront};
 ghost use Rattle.turning.specs.Turning.{TurnRoom};
-ghost use Rattle.serve.specs.Served.{is_end, Served, ServedNew};
+ghost use Rattle.serve.specs.Served.{is_end, Served, ServedNew, Passed};
 
 use giving::{Handed, Went, finish};
 use keys::{ROWS, SLOTS};
 use lookup::{TABLE_SIZE, digit_tables};
 use looping::turns;
 use run::{Session, new_session};
-use turning::Pipes;
+use std::io::{Read, Write};
 
 // What one read brings at most.
 const PIECE: usize = 16384;
@@ -21,8 +26,7 @@ const ANSWERS: usize = PIECE * 17;
 fn has_ended(handed: Handed) -> bool
     ensures { result ≡ is_end handed.went }
 {
-    let went = handed.went;
-    match went {
+    match handed.went {
         Went::On => false,
         Went::InputEnded => true,
         Went::ReadFailed => false,
@@ -32,38 +36,44 @@ fn has_ended(handed: Handed) -> bool
 }
 
 // The turns, and where the input has ended, its last line.
-fn serve_lines(
+fn serve_lines<R: Read, W: Write>(
+    rt: &impl Eprint,
     keys: &mut [u64],
     rows: &mut [u32],
     session: Session,
     tables: &[u16; TABLE_SIZE],
-    pipes: Pipes,
+    input: &mut R,
+    output: &mut W,
     piece: &mut [u8],
     out: &mut [u8],
 ) -> Handed
     requires { TurnRoom keys.old rows.old session tables.now piece.old out.old }
-    ensures { Served result.went keys.old rows.old session
-        result keys.new rows.new piece.new out.new }
+    ensures served { Served result.went keys.old rows.old session result keys.new rows.new piece.new out.new }
+    ensures passed { Passed result.went (R.remaining input.old) (R.remaining input.new) (W.contents output.old) (W.contents output.new)
+        keys.old rows.old session result keys.new rows.new piece.new out.new }
 {
-    let last = turns(keys, rows, session, tables, pipes, piece, out);
+    let last = turns(rt, keys, rows, session, tables, input, output, piece, out);
     if has_ended(last) {
-        return finish(keys, rows, last, tables, pipes.output, out);
+        return finish(rt, keys, rows, last, tables, output, out);
     }
     last
 }
 
 // Answers every line of the input, those that a read completed before the next read, from the new machine.
-pub fn serve(input: i32, output: i32) -> Handed
-    ensures { ServedNew result }
+pub fn serve<R: Read, W: Write>(rt: &impl Eprint, input: &mut R, output: &mut W) -> Handed
+    ensures served { ServedNew result }
+    ensures all { result.went ≡ Went.InputEnded → IfSome (R.remaining input.old) (λ bytes.
+        Appends (W.contents output.old) (W.contents output.new) (program bytes)) }
+    ensures beginning { IfSome (R.remaining input.old) (λ bytes.
+        AppendsFront (W.contents output.old) (W.contents output.new) (program bytes)) }
 {
     let mut keys = [0u64; SLOTS];
     let mut rows = [0u32; ROWS];
     let mut piece = [0u8; PIECE];
     let mut out = [0u8; ANSWERS];
     let tables = digit_tables();
-    let pipes = Pipes { input, output };
     let session = new_session();
     serve_lines(
-        &mut keys, &mut rows, session, &tables, pipes, &mut piece, &mut out,
+        rt, &mut keys, &mut rows, session, &tables, input, output, &mut piece, &mut out,
     )
 }

@@ -1,4 +1,6 @@
 // What an answer brings, in words: a picture, the counts of the lists, a derived number. Crate `saying` calls these.
+#![tactic(auto)]
+
 ghost use Rattle.std.specs.Prelude.{◌+◌, ◌≤◌, length};
 ghost use Rattle.phrases.specs.Phrases.{Added};
 ghost use Rattle.showing.specs.Shown.{picture_words, count_words, signed_words};
@@ -30,6 +32,7 @@ pub fn add_counts(out: &mut [u8], at: usize, value: u32) -> usize
 }
 
 // A number in two's complement.
+#[tactic(auto, using(phrases::proofs::Adding::added_then))]
 pub fn add_signed(out: &mut [u8], at: usize, value: u32) -> usize
     requires { at + 60 ≤ length out.old }
     ensures added { Added out.old at (signed_words value) result out.new }

@@ -1,4 +1,6 @@
 // What a caller's slices are tested for before anything is read in them.
+#![tactic(auto)]
+
 ghost use Rattle.std.specs.Prelude.{◌≡◌};
 ghost use Rattle.machine.specs.Lent.{slices, sized};
 

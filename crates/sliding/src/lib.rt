@@ -1,4 +1,6 @@
 // Moves within the keys of the slots, for marking and the calls of the picture manager.
+#![tactic(auto)]
+
 ghost use Rattle.std.specs.Prelude.{◌≡◌, ◌<◌, length};
 ghost use Rattle.seq.specs.Lists.{move_to, remove_at};
 ghost use Rattle.def.specs.State.{slots};

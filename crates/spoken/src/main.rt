@@ -1,37 +1,45 @@
 // Runs stored commands and answers through the loop of the two programs, messages and all to standard output.
 //
 // What `stdout` has for them was not made by these programs: it was written from the definitions.
-use delivering::Pipes;
-use libc::STDOUT_FILENO;
+#![tactic(auto)]
+
+use relaying::relay;
+use std::fs;
+use std::io::Write;
+use std::rt::Files;
 use telling::Kind;
 
-fn run(kind: Kind, path: &[u8]) {
-    let input = os::open_read(path);
-    if input < 0 {
-        os::fail(path);
-        return;
+fn run<W: Write, E: Write>(
+    rt: &(impl Files + Eprint),
+    kind: Kind,
+    output: &mut W,
+    errors: &mut E,
+    path: &str,
+) {
+    match fs::open(rt, path) {
+        Ok(mut input) => {
+            let _ = relay(rt, kind, &mut input, output, errors);
+        }
+        Err(e) => {
+            let _ = eprintln!(rt; "{path}: {e}");
+        }
     }
-    let pipes = Pipes {
-        input,
-        output: STDOUT_FILENO,
-        errors: STDOUT_FILENO,
-    };
-    relaying::relay(kind, pipes);
-    libc::close(input);
 }
 
-fn main() {
+fn main(rt: HostRuntime) {
+    let mut output = rt.stdout();
+    let mut errors = rt.stdout();
     // Every command, with every part and with each part left out, in any order, with comments and other spaces.
-    run(Kind::Ask, b"commands");
+    run(&rt, Kind::Ask, &mut output, &mut errors, "commands");
     // Every way in which a command can't be read, and a good one behind them.
-    run(Kind::Ask, b"bad_commands");
+    run(&rt, Kind::Ask, &mut output, &mut errors, "bad_commands");
     // Lines of 1,023, 1,024 and 5,000 characters, and a last line that lacks its newline.
-    run(Kind::Ask, b"long_commands");
+    run(&rt, Kind::Ask, &mut output, &mut errors, "long_commands");
     // Every call with every status.
-    run(Kind::Say, b"answers");
+    run(&rt, Kind::Say, &mut output, &mut errors, "answers");
     // Every kind of line that is no answer, and an answer behind them.
-    run(Kind::Say, b"bad_answers");
+    run(&rt, Kind::Say, &mut output, &mut errors, "bad_answers");
     // Nothing at all.
-    run(Kind::Ask, b"empty");
-    run(Kind::Say, b"empty");
+    run(&rt, Kind::Ask, &mut output, &mut errors, "empty");
+    run(&rt, Kind::Say, &mut output, &mut errors, "empty");
 }

@@ -1,9 +1,11 @@
 // Where an input stands: how many characters are kept of the line that is not finished, and its number. Crate `telling` goes on with `next_spot`.
+#![tactic(auto)]
+
 ghost use Rattle.std.specs.Prelude.{◌≡◌};
 ghost use Rattle.spots.specs.Spots.{next_spot};
 
 // How many characters of the line that is not finished are kept, and its number.
-#[derive(Drop)]
+#[derive(Clone, Copy)]
 pub struct Spot {
     pub len: usize,
     pub number: u64,

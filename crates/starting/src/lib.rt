@@ -1,5 +1,7 @@
 // Init by value, with the name and the shape of the original: the two limits, step 1 and no lease. Any state may come: one that is not whole is
 // handed back with its refusal.
+#![tactic(auto)]
+
 ghost use Rattle.std.specs.Prelude.{◌≡◌};
 ghost use Rattle.picman.specs.Init.{init};
 

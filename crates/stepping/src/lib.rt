@@ -1,5 +1,7 @@
 // One call on a machine by value, for the image that the library lends: the machine is taken apart into the three slices of the running
 // machine, the call goes their one road, `running::reply_on`, and the machine is put together again.
+#![tactic(auto)]
+
 ghost use Rattle.std.specs.Prelude.{◌≡◌};
 ghost use Rattle.machine.specs.Step.{step};
 

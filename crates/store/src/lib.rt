@@ -1,4 +1,6 @@
 // Searches and counts over the keys of the slots, for marking and the calls of the picture manager.
+#![tactic(auto)]
+
 ghost use Rattle.std.specs.Prelude.{◌≡◌, length};
 ghost use Rattle.seq.specs.Lists.{count_if, lowest, highest};
 ghost use Rattle.def.specs.State.{slots};

@@ -1,5 +1,7 @@
 // Entries of the reference lists stored in place on the rows of the running form: one by its head, one from a picture's key, those of a list of
 // keys, and all of them dropped. Crates `filling` and `adding` call these.
+#![tactic(auto)]
+
 ghost use Rattle.std.specs.Prelude.{◌≡◌, ◌+◌, ◌*◌, ◌<◌, length, set};
 ghost use Rattle.def.specs.State.{list_places};
 ghost use Rattle.keys.specs.Keys.{row_length, head_row, number_row, rows_length, row_at, key_buffer, key_number};

@@ -1,7 +1,9 @@
 // The sum of bytes, wrapping at 256, whether it is zero, and the byte that makes it so. Lines are tested and closed by this.
+#![tactic(auto)]
+
 ghost use Rattle.std.specs.Prelude.{◌≡◌, ◌-◌, ◌%◌};
-ghost use Rattle.hex.specs.Hex.{sum8};
-ghost use Rattle.hex.specs.Frame.{is_checked};
+ghost use Rattle.hex_digits.specs.Hex.{sum8};
+ghost use Rattle.hex_digits.specs.Frame.{is_checked};
 
 // The sum of bytes, wrapping at 256.
 pub fn sum8(bytes: &[u8]) -> u8

@@ -1,4 +1,6 @@
 // Marking's first sweep: references are picked, each in its place, and go unmarked behind all the others.
+#![tactic(auto)]
+
 ghost use Rattle.std.specs.Prelude.{◌≡◌, not, ◌&&◌, ◌%◌, ltb, eqb, length};
 ghost use Rattle.seq.specs.Lists.{count_if};
 ghost use Rattle.def.specs.State.{slots};

@@ -1,4 +1,6 @@
 // What one pass over the keys of a state gathers, three keys at a time, over any bits: what the test of a whole state is told from.
+#![tactic(auto)]
+
 ghost use Rattle.std.specs.Prelude.{◌≡◌, length};
 ghost use Rattle.def.specs.State.{slots};
 ghost use Rattle.tallying.specs.Tallies.{Roomy, no_tally, tallied, tally_all};
@@ -8,7 +10,7 @@ use keys::key::is_present;
 
 // What one pass over the keys gathers. The bits of those without a picture and of those with one; how many have a picture and how many are
 // marked; and of the buffer numbers, as bits, the set and the sum. Set and sum are the same where none comes twice.
-#[derive(Drop)]
+#[derive(Clone, Copy)]
 pub struct Tally {
     pub stray: u64,
     pub high: u64,

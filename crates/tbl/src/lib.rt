@@ -1,4 +1,6 @@
 // Slice depths: the tables of the Rust's src/enc/tbl.rs, flat, a row for each of the group lengths 2, 4, 8, 12 and 16.
+#![tactic(auto)]
+
 ghost use Rattle.std.specs.Prelude.{◌≡◌};
 ghost use Rattle.tbl.specs.DepthRows.{is_gop_size, slice_depth, slice_depth_p};
 
@@ -184,7 +186,7 @@ const tbl_slice_depth: [u8; 75] = [
 ];
 
 // A slice's depth, or that there is none.
-#[derive(Drop)]
+#[derive(Clone, Copy)]
 pub enum SliceDepth {
     Depth(u8),
     Refused(Refusal),

@@ -15,7 +15,7 @@ use Rattle.asking.specs.Asked.{Texts, texts}
 use Rattle.spots.specs.declared.Spot.{Spot}
 use Rattle.telling.specs.declared.{Kind.Kind, Spoken.Spoken}
 use Rattle.telling.specs.Told.{joined}
-use Rattle.telling.specs.Telling.{kept, Keeps, Kept, most, Speaker, speaker, speaker_in, Fed, fed, feed_byte, feed}
+use Rattle.telling.specs.Telling.{kept, Keeps, Kept, most, Speaker, speaker_in, Fed, fed, feed_byte, feed}
 use Rattle.telling.specs.Telling.{Room, TookByte, PieceRoom, ToldPiece}
 
 pub keep-more : (held : List ℕ) (len c : ℕ) → Keeps held len → len < kept → Kept held len c (len + 1) (set held len c)

@@ -1,5 +1,7 @@
 // Lines told one by one as their bytes come: commands as call lines, or answers as words. A byte that ends a line has its texts
 // put behind those of the lines before, so what stands in the buffers after a piece of the input is what its lines give.
+#![tactic(auto)]
+
 ghost use Rattle.std.specs.Prelude.{◌≤◌, length};
 ghost use Rattle.buffer.specs.Buffer.{newline};
 ghost use Rattle.asking.specs.Asked.{Wrote};
@@ -11,7 +13,7 @@ use saying::say_line;
 use spots::{Spot, next_spot};
 
 // What the lines are.
-#[derive(Drop)]
+#[derive(Clone, Copy)]
 pub enum Kind {
     Ask,
     Say,
@@ -24,7 +26,7 @@ pub const KEPT: usize = LONGEST + 1;
 pub const MOST: usize = 128;
 
 // Where the input stands, and how many bytes stand at the front of the output and of the messages.
-#[derive(Drop)]
+#[derive(Clone, Copy)]
 pub struct Spoken {
     pub spot: Spot,
     pub out: usize,

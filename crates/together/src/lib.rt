@@ -1,4 +1,6 @@
 // A whole state by value put together from keys, rows and the rest, for crates `opening` and `parting`.
+#![tactic(auto)]
+
 ghost use Rattle.std.specs.Prelude.{◌≡◌, true, map, ◌≤◌, length};
 ghost use Rattle.def.specs.State.{highest_poc};
 ghost use Rattle.keys.specs.Keys.{key_number, rows_length, slot_with, slot_at, stands, Sized};

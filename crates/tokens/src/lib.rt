@@ -1,9 +1,11 @@
 // A word as its characters come: a code by which words are told apart, and its value where it is a number.
+#![tactic(auto)]
+
 ghost use Rattle.std.specs.Prelude.{◌≡◌, true};
 ghost use Rattle.tokens.specs.Words.{is_sign, code_with, value_with, empty_word, longer, is_number, is_signed, signed_value};
 
 // The characters as one number behind a 1, the first highest; TOO_LONG from eight on, since no word of a command has so many.
-#[derive(Drop)]
+#[derive(Clone, Copy)]
 pub struct Word {
     pub code: u64,
     pub value: u64,

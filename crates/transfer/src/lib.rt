@@ -1,5 +1,7 @@
 // The running machine in a caller's slices, loaded from an image and saved as one, with any bits in both. A size or a flag byte that does not fit gives
 // 18, a state that is not whole 7, since keys cannot say every such state; then nothing is written.
+#![tactic(auto)]
+
 ghost use Rattle.std.specs.Prelude.{◌≡◌, true, length};
 ghost use Rattle.whole.specs.Whole.{whole};
 ghost use Rattle.image.specs.Image.{image_length, is_image};

@@ -1,18 +1,16 @@
 // One turn of the program's loop: what one read brings is run over, and the answers to the lines that it completed are given to be written.
-ghost use Rattle.std.specs.Prelude.{◌≡◌, length};
-ghost use Rattle.turning.specs.Turning.{TurnRoom, Turned};
+#![tactic(auto)]
+
+ghost use Rattle.std.specs.Prelude.{◌≡◌, ◌<◌, length, take};
+ghost use Rattle.std.specs.Io.KnownBytes.{Consumes, IsAtEnd};
+ghost use Rattle.giving.specs.Giving.{Wrote};
+ghost use Rattle.turning.specs.Turning.{TurnRoom, Turned, brought_by};
 
 use giving::{Handed, Went, give};
 use lookup::TABLE_SIZE;
 use reading::{Heard, read_some};
 use run::{Session, run_piece};
-
-// The two descriptors.
-#[derive(Drop)]
-pub struct Pipes {
-    pub input: i32,
-    pub output: i32,
-}
+use std::io::{Read, Write};
 
 // Nothing was read.
 fn idle(session: Session, heard: Heard, went: Went) -> Handed
@@ -27,12 +25,14 @@ fn idle(session: Session, heard: Heard, went: Went) -> Handed
 }
 
 // Reads once, and writes the answers to the lines that this completed.
-pub fn turn(
+pub fn turn<R: Read, W: Write>(
+    rt: &impl Eprint,
     keys: &mut [u64],
     rows: &mut [u32],
     session: Session,
     tables: &[u16; TABLE_SIZE],
-    pipes: Pipes,
+    input: &mut R,
+    output: &mut W,
     piece: &mut [u8],
     out: &mut [u8],
 ) -> Handed
@@ -41,24 +41,26 @@ pub fn turn(
         result keys.new rows.new piece.new out.new }
     ensures sizes { (length piece.new ≡ length piece.old)
         × (length out.new ≡ length out.old) }
+    ensures reads { Consumes (R.remaining input.old) (R.remaining input.new) (brought_by result piece.new) }
+    ensures end { result.went ≡ Went.InputEnded → 0 < length piece.old → IsAtEnd (R.remaining input.new) }
+    ensures writes { Wrote result.went (W.contents output.old) (W.contents output.new) (take result.written out.new) }
 {
-    let heard = read_some(pipes.input, piece);
-    let got = heard.got;
-    if got < 0 {
-        os::fail(b"picman: read");
-        return idle(session, heard, Went::ReadFailed);
+    let heard = read_some(input, piece);
+    match heard.answer {
+        Err(e) => {
+            let _ = eprintln!(rt; "picman: read: {e}");
+            idle(session, heard, Went::ReadFailed)
+        }
+        Ok(0) => idle(session, heard, Went::InputEnded),
+        Ok(n) => {
+            let ran = run_piece(keys, rows, session, tables, &piece[..n], out);
+            let handed = Handed {
+                session: ran.session,
+                heard,
+                written: ran.len,
+                went: Went::On,
+            };
+            give(rt, output, out, handed, Went::WriteFailed)
+        }
     }
-    if got == 0 {
-        return idle(session, heard, Went::InputEnded);
-    }
-    let n = io::count(got, piece);
-    let ran = run_piece(keys, rows, session, tables, &piece[..n], out);
-    let next = ran.session;
-    let handed = Handed {
-        session: next,
-        heard,
-        written: ran.len,
-        went: Went::On,
-    };
-    give(pipes.output, out, handed, Went::WriteFailed)
 }

@@ -1,9 +1,11 @@
 // The fields of the two long calls, put and lists, unpacked from the body of a call line. The reader of call lines asks this.
+#![tactic(auto)]
+
 ghost use Rattle.std.specs.Prelude.{◌≡◌, ◌+◌, ◌<◌, length};
-ghost use Rattle.hex.specs.Frame.{word_at};
+ghost use Rattle.hex_digits.specs.Frame.{word_at};
 ghost use Rattle.line.specs.Calls.{put_in, lists_in, line_for};
 
-use hex::word;
+use hex_digits::word;
 use line::{Call, HIGHEST_FLAGS, Line};
 
 // Four bytes from a place on.

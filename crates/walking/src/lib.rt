@@ -1,4 +1,6 @@
 // The passes over the ordered pictures that fill one list, for crates `choosing` and `reaching`; each picture's turn is `pass_step` of crate `one_step`.
+#![tactic(auto)]
+
 ghost use Rattle.ordering.specs.InNumbers.{keys_in};
 ghost use Rattle.passes.specs.Passes.{both_ways, list_of};
 ghost use Rattle.passes.specs.InNumbers.{ask_in, PassRoom, PassDone, PassesRoom, PassesDone};

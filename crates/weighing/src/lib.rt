@@ -1,4 +1,6 @@
 // The reason for a marked picture by how far its pass has come at its turn: the row of conditions, for crate `reaching`.
+#![tactic(auto)]
+
 ghost use Rattle.std.specs.Prelude.{◌≡◌, true, ◌+◌, ◌≤◌};
 ghost use Rattle.def.specs.State.{list_places};
 ghost use Rattle.ordering.specs.InNumbers.{key_in};
@@ -11,7 +13,7 @@ use passes::PassRule;
 use reasons::Reason;
 
 // How far a pass has come: the entries of the list, and the bound.
-#[derive(Drop)]
+#[derive(Clone, Copy)]
 pub struct Reached {
     pub cnt: usize,
     pub bound: u64,

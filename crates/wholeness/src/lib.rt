@@ -1,5 +1,7 @@
 // Whether a state keeps the rules that every call relies on, told from its keys in one pass over any bits. Each entry point asks this first and
 // refuses where it does not.
+#![tactic(auto)]
+
 ghost use Rattle.std.specs.Prelude.{◌≡◌, List, ℕ, length};
 ghost use Rattle.def.specs.State.{slots};
 ghost use Rattle.keys.specs.Keys.{stands};

@@ -4,7 +4,7 @@ use Rattle.std.specs.Prelude.{ℕ, ◌≡◌, cond, ◌&&◌, List, eqb, length}
 use Rattle.line.specs.declared.{Line.Line, Reply.Reply}
 use Rattle.line.specs.Answers.{reply_bytes}
 use Rattle.line.specs.Calls.{call_from}
-use Rattle.hex.specs.Frame.{with_check}
+use Rattle.hex_digits.specs.Frame.{with_check}
 use Rattle.running.specs.Slices.{Slices, sized, reply_to, Leaves}
 
 -- The bytes of an answer, check byte last.

@@ -1,4 +1,6 @@
 // A call from the bytes of its line, check byte too, not in hex; the answer as bytes.
+#![tactic(auto)]
+
 ghost use Rattle.std.specs.Prelude.{◌≡◌, length};
 ghost use Rattle.running.specs.Slices.{slices};
 ghost use Rattle.wire.specs.Wire.{answer_length, answer_bytes, Wired};

@@ -1,4 +1,6 @@
 // The word for the status of an answer, from one table of the refusals' words. Crate `saying` calls `add_word`.
+#![tactic(auto)]
+
 ghost use Rattle.std.specs.Prelude.{◌≡◌, ◌+◌, ◌≤◌, ◌<◌, length};
 ghost use Rattle.phrases.specs.Phrases.{Added};
 ghost use Rattle.wording.specs.Words.{word_place, status_word};

@@ -1,6 +1,8 @@
 // Numbers of four bytes, the highest first, read from bytes that the caller lends and written into them; the bytes before and behind stay.
 // The callers have tested the lengths. specs/ says what flags and picture number records are in bytes, too.
 // `Stored bs at ys n after` says: after is bs with ys, n bytes, stored from place at on.
+#![tactic(auto)]
+
 ghost use Rattle.std.specs.Prelude.{◌≡◌, ◌+◌, ◌≤◌, length};
 ghost use Rattle.seq.specs.Lists.{Stored};
 ghost use Rattle.def.specs.Word.{word, word_bytes};

@@ -14,8 +14,8 @@ use Rattle.def.specs.declared.Refusal.{Refusal}
 use Rattle.line.specs.declared.Call.{Call}
 use Rattle.line.specs.declared.LineAt.{LineAt}
 use Rattle.line.specs.declared.Line.TheVariants.{Good}
-use Rattle.hex.specs.Hex.{digits_of, sum8}
-use Rattle.hex.specs.Frame.{framed}
+use Rattle.hex_digits.specs.Hex.{digits_of, sum8}
+use Rattle.hex_digits.specs.Frame.{framed}
 use Rattle.line.specs.Calls.{call_bytes, call_in, call_kind, line_for, read_line}
 use Rattle.buffer.specs.Buffer.{newline, is_newline}
 use Rattle.framing.specs.Framing.{whole_of, line_size}

@@ -2,12 +2,12 @@
 -- given is how many bytes that took; behind them the buffer is as it was. First 18, for fields that are no call's, as flags above 15; then 20, for a
 -- line that with its newline does not fit. Under both the buffer is untouched.
 -- Assumes nothing.
-use Rattle.std.specs.Prelude.{ℕ, ◌+◌, ◌≤◌, ◌≡◌, Bool, true, false, cond, List, [], ◌∷◌, ◌++◌, ltb, length, take}
+use Rattle.std.specs.Prelude.{ℕ, ◌≤◌, ◌≡◌, Bool, true, false, cond, List, [], ◌∷◌, ◌++◌, ltb, length, take}
 use Rattle.std.proofs.Math.Option.{Option, none, some}
 use Rattle.std.proofs.Math.Seq.{paste}
 use Rattle.def.specs.declared.Refusal.{Refusal}
 use Rattle.line.specs.declared.Call.{Call}
-use Rattle.hex.specs.Hex.{digits_of, word_bytes}
+use Rattle.hex_digits.specs.Hex.{digits_of, word_bytes}
 use Rattle.line.specs.Calls.{call_in, call_bytes}
 use Rattle.framing.specs.Framing.{whole_of, line_size}
 use Rattle.writer.specs.declared.Written.{Written}

@@ -1,4 +1,6 @@
 // A writer of call lines into a lent buffer.
+#![tactic(auto)]
+
 ghost use Rattle.std.specs.Prelude.{◌≡◌};
 ghost use Rattle.line.specs.Calls.{call_bytes};
 ghost use Rattle.writer.specs.Writing.{is_call_body, short_body, long_body, HoldsBody, written, written_out};
@@ -11,7 +13,7 @@ use parsing::call_in;
 const LONGEST_BODY: usize = 12;
 
 // The length of the line that was written, its newline counted; or why none was, and then no byte of the buffer has changed.
-#[derive(Drop)]
+#[derive(Clone, Copy)]
 pub enum Written {
     Line(usize),
     Refused(Refusal),
@@ -27,6 +29,7 @@ fn is_call_body(fields: &[u8]) -> bool
 }
 
 // The line of a call whose call byte and fields these are.
+#[tactic(auto, unfolding(crate::specs::Writing::written))]
 pub fn write_fields(fields: &[u8], target: &mut [u8]) -> Written
     ensures { written_out result target.new ≡ written fields.now target.old }
 {
@@ -40,7 +43,7 @@ pub fn write_fields(fields: &[u8], target: &mut [u8]) -> Written
 }
 
 // The bytes of a call without its check byte, and how many they are.
-#[derive(Drop)]
+#[derive(Clone, Copy)]
 pub struct Body {
     pub bytes: [u8; LONGEST_BODY],
     pub len: usize,

@@ -1,9 +1,11 @@
 // Answer lines written straight into a lent buffer.
 // The public function's `requires` are met by who lends the table and has made room for each answer.
+#![tactic(auto)]
+
 ghost use Rattle.std.specs.Prelude.{◌≡◌, ◌+◌, ◌≤◌, [], ◌∷◌, length};
 ghost use Rattle.std.proofs.Math.Seq.{paste};
 ghost use Rattle.seq.specs.Lists.{Stored};
-ghost use Rattle.hex.specs.Hex.{digit_pair, digits_of, sum8, word_bytes, digit_tables};
+ghost use Rattle.hex_digits.specs.Hex.{digit_pair, digits_of, sum8, word_bytes, digit_tables};
 ghost use Rattle.line.specs.Answers.{answer_line};
 
 use line::Reply;

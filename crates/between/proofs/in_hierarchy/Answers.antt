@@ -1,0 +1,12 @@
+-- `between::in_hierarchy` meets its contract: the callees' contracts, last call first. Assumes nothing.
+use Prim.Native.Nat.{ℕ, ◌≤◌}
+use native.Mathlib.Omega.{arith}
+use Rattle.tbl.specs.DepthRows.{depth_rule}
+use Rattle.between.proofs.in_hierarchy.Goals as goal
+
+above_zero : (j : ℕ) → 1 ≤ depth_rule j
+unfolding depth_rule
+above_zero j = omega arith
+
+pub overflow_sub-depth : goal.overflow_sub-depth
+overflow_sub-depth c = rw c.depth_at-depth.ensures (above_zero _)

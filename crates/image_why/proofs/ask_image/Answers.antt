@@ -1,0 +1,13 @@
+-- `image_why::ask_image` meets its contract: what the entry point by value answers is shown. Assumes nothing.
+use mathlib.Core.Path.{ap, ◌∙◌}
+use Rattle.def.specs.declared.{EvcPm.EvcPm}
+use Rattle.reasons.specs.declared.{WhyAnswer.WhyAnswer}
+use Rattle.reasons.specs.Reasons.{why}
+use Rattle.questions.specs.Asked.{shown_why}
+use Rattle.image_why.proofs.ask_image.Goals as goal
+
+pub returns : goal.returns
+returns c =
+    c.show_why.ensures
+    ∙ ap (λ (a : WhyAnswer). shown_why a c.args.reason.now)
+    (c.evc_picman_why.ensures ∙ ap (λ (pm : EvcPm). why pm c.args.call c.args.slot) c.read_pm-pm.ensures)

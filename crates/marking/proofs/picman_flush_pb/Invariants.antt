@@ -1,0 +1,16 @@
+use mathlib.Core.Path.{◌≡◌, refl, sym, ap, ◌∙◌}
+use mathlib.Core.List.{map}
+use Prim.Native.Nat.{◌≤◌, ◌-◌}
+use native.Mathlib.Omega.{arith}
+use borrow.Author.Rules.{rules}
+use lib.ListN.{length, take, length-set}
+use lib.Seq.{take_all}
+use Rattle.keys.specs.Keys.{key_unmarked}
+use Rattle.seq.proofs.Maps.{fill-turn}
+use Rattle.marking.proofs.picman_flush_pb.Given as goal
+
+abbrev pub invariant-loop-i : goal.invariant-loop-i
+invariant-loop-i l = (l.i ≤ 27) × (length l.keys ≡ 27) × (length l.next ≡ 27) × (take l.i l.next ≡ map key_unmarked (take l.i l.keys))
+
+abbrev pub decreases-loop-i : goal.decreases-loop-i
+decreases-loop-i l = 27 - l.i

@@ -1,0 +1,36 @@
+-- `reader::answer_at` meets its contract. Assumes nothing.
+use Prim.Native.Nat.{ℕ, ◌-◌}
+use native.Mathlib.Omega.{arith}
+use mathlib.Core.Path.{◌≡◌, sym, ap, ◌∙◌}
+use lib.ListN.{take, drop, length-drop}
+use borrow.Author.Tests.{lt-ltb, le-ltb}
+use Rattle.seq.specs.Lists.{lowest}
+use Rattle.seq.proofs.Walks.{lowest-le}
+use Rattle.hex_digits.specs.Frame.{from_line}
+use Rattle.buffer.specs.Buffer.{is_newline}
+use Rattle.line.specs.Answers.{answer_kind}
+use Rattle.answers.specs.Answers.{answer_for}
+use Rattle.reader.specs.Reading.{read_for, answer_at}
+use Rattle.reader.proofs.answer_at.Goals as goal
+
+pub returns-then-lines-at : goal.returns-then-lines-at
+unfolding answer_at
+returns-then-lines-at c = rw (le-ltb _ _ c.if-lines-at.true)
+
+pub slice_bounds-read_answer-end : goal.slice_bounds-read_answer-end
+slice_bounds-read_answer-end c =
+    let a = c.args in
+    let low = lowest-le 0 is_newline (drop a.at a.lines.now) in
+    omega (arith, c.line_end-end.ensures, length-drop a.at a.lines.now)
+
+pub returns : goal.returns
+unfolding answer_at
+returns c =
+    let found = c in
+    let s = found in
+    let at = s.args.at in
+    let rest = drop at s.args.lines.now in
+    let size : found.line_end-end.result - at ≡ lowest is_newline rest = omega (arith, found.line_end-end.ensures) in
+    c.read_of.ensures
+    ∙ ap (read_for at) (c.read_answer.ensures ∙ ap (λ (n : ℕ). answer_for (from_line answer_kind (take n rest))) size)
+    ∙ sym (rw (lt-ltb _ _ found.if-lines-at.false))

@@ -1,0 +1,11 @@
+-- `run::next_line` meets its contract. Assumes nothing.
+use Prim.Native.Nat.{ℕ}
+use mathlib.Core.Path.{sym, ap, ◌∙◌}
+use lib.ListN.{take}
+use Rattle.run.proofs.NextLines.{next-found}
+use Rattle.run.proofs.next_line.Goals as goal
+
+pub returns : goal.returns
+returns c =
+    next-found (sym c.read_line_at-found.ensures ∙ c.in-Good.is)
+    (ap (λ (n : ℕ). take n c.args.partial.bytes) c.if-partial-ne0.false)

@@ -1,0 +1,21 @@
+-- `running::call_on` meets its contract: the scalars are read, the call made, and the scalars after it written unless it is turned down.
+-- Assumes nothing.
+use mathlib.Core.Path.{sym, ◌∙◌}
+use Rattle.def.proofs.Refusals.{in_use, not-in-use}
+use Rattle.running.proofs.Answering.{call-refused, call-made}
+use Rattle.running.proofs.call_on.Goals as goal
+
+pub returns-then-is_refusal_number : goal.returns-then-is_refusal_number
+returns-then-is_refusal_number c =
+    call-refused _ _ c.scalars_at-before.ensures c.checked_call-made.ensures
+    (in_use c.checked_call-made.result.reply.status (sym c.is_refusal_number.ensures ∙ c.if-is_refusal_number.true))
+
+pub store-requires : goal.store-requires
+store-requires c =
+    c.requires.1
+
+pub returns : goal.returns
+returns c =
+    call-made _ _ c.scalars_at-before.ensures c.checked_call-made.ensures
+    (not-in-use c.checked_call-made.result.reply.status (sym c.is_refusal_number.ensures ∙ c.if-is_refusal_number.false))
+    c.store.ensures.kept.0 c.store.ensures.kept.1

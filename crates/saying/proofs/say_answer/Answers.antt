@@ -1,0 +1,11 @@
+-- `saying::say_answer` meets its contract: its parts stand one behind the other.
+-- Assumes nothing.
+use Rattle.phrases.proofs.Adding.{added_then}
+use Rattle.saying.specs.Words.{answer_words}
+use Rattle.saying.proofs.say_answer.Goals as goal
+
+pub returns-clause-added : goal.returns-clause-added
+unfolding answer_words
+returns-clause-added c =
+    added_then c.add_name-a.ensures.added
+    (added_then c.add-b.ensures (added_then c.add_status-c.ensures.added c.add.ensures))

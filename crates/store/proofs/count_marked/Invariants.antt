@@ -1,0 +1,16 @@
+use mathlib.Core.Path.{◌≡◌, ap}
+use Prim.Native.Nat.{◌≤◌, ◌+◌, ◌-◌}
+use native.Mathlib.Omega.{arith}
+use borrow.Author.Rules.{rules}
+use mir.Val.{bool_byte}
+use lib.ListN.{length, drop}
+use Rattle.seq.specs.Lists.{count_if}
+use Rattle.seq.proofs.Walks.{counted, count-end}
+use Rattle.keys.specs.Keys.{key_marked}
+use Rattle.store.proofs.count_marked.Given as goal
+
+abbrev pub invariant-loop-i : goal.invariant-loop-i
+invariant-loop-i l = (l.i ≤ 27) × (length l.keys ≡ 27) × (l.marked + count_if key_marked (drop l.i l.keys) ≡ count_if key_marked l.keys)
+
+abbrev pub decreases-loop-i : goal.decreases-loop-i
+decreases-loop-i l = 27 - l.i

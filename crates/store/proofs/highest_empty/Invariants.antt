@@ -1,0 +1,16 @@
+use mathlib.Core.Path.{◌≡◌, sym, ap, ◌∙◌}
+use Prim.Native.Nat.{◌≤◌}
+use native.Mathlib.Omega.{arith}
+use borrow.Author.Rules.{rules}
+use mathlib.Core.Bool.{false, not}
+use lib.ListN.{length, drop, drop_of_length-le}
+use Rattle.seq.specs.Lists.{any_of}
+use Rattle.seq.proofs.Walks.{highest-found, none_from, highest-none}
+use Rattle.keys.specs.Keys.{key_empty}
+use Rattle.store.proofs.highest_empty.Given as goal
+
+abbrev pub invariant-loop-i : goal.invariant-loop-i
+invariant-loop-i l = (l.i ≤ 27) × (length l.keys ≡ 27) × (any_of key_empty (drop l.i l.keys) ≡ false)
+
+abbrev pub decreases-loop-i : goal.decreases-loop-i
+decreases-loop-i l = l.i
