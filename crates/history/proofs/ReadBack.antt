@@ -35,7 +35,7 @@ use Rattle.picman.proofs.Keeps.{remarked-lease}
 use Rattle.picman.proofs.OutCases.{due_slot, due_in, due-present}
 use Rattle.picman.proofs.OutLaws as out-laws
 use Rattle.picman.proofs.InitLaws as init-laws
-use Rattle.line.specs.declared.{Call.Call, Line.Line, Reply.Reply}
+use Rattle.line.specs.declared.{Call.Call, Line.Line}
 use Rattle.line.specs.{Calls.read_line, Answers.answer_line, Answers.reply_of, Claims.ReplyFits, Lines.lines_from}
 use Rattle.reader.specs.Reading.{reads_from}
 use Rattle.reader.specs.Claims.{AllFit}

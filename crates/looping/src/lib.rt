@@ -3,7 +3,7 @@
 
 ghost use Rattle.std.specs.Prelude.{◌≡◌};
 ghost use Rattle.turning.specs.Turning.{TurnRoom};
-ghost use Rattle.looping.specs.Loop.{is_on, Looped, LoopedOver};
+ghost use Rattle.looping.specs.Loop.{is_on, LoopedOver};
 
 use giving::{Handed, Went};
 use lookup::TABLE_SIZE;

@@ -3,7 +3,7 @@
 // fails is said on standard error, with the system's words, and ends the loop.
 #![tactic(auto)]
 
-ghost use Rattle.std.specs.Prelude.{◌≡◌, ◌<◌, length, IfSome};
+ghost use Rattle.std.specs.Prelude.{◌≡◌, IfSome};
 ghost use Rattle.std.specs.Io.KnownBytes.{Appends};
 ghost use Rattle.run.specs.Run.{program};
 ghost use Rattle.pouring.specs.Pouring.{AppendsFront};

@@ -2,7 +2,6 @@
 use mathlib.Core.Path.{◌≡◌, ◌∙◌}
 use Prim.Native.Nat.{◌≤◌}
 use native.Mathlib.Omega.{arith}
-use borrow.Author.Rules.{rules}
 use lib.ListN.{length, length-map}
 use Rattle.seq.specs.Lists.{select}
 use Rattle.seq.proofs.Tests.{count-length, length-select}

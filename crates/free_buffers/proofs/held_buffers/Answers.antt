@@ -1,13 +1,9 @@
 -- `free_buffers::held_buffers` meets its contract: what is flagged so far, with what is left, is what the keys hold. Assumes nothing.
-use mathlib.Core.Path.{◌≡◌, refl, sym, ◌∙◌}
-use mathlib.Core.Bool.{false, ◌||◌, or-false}
-use Prim.Native.Nat.{ℕ, ◌≤◌, ◌<◌, ◌-◌}
+use mathlib.Core.Path.{refl, sym, ◌∙◌}
+use mathlib.Core.Bool.{false, or-false}
 use native.Mathlib.Omega.{arith}
-use borrow.Author.Rules.{rules}
-use lib.Dec.{eqb}
-use lib.ListN.{length, drop, get_or, length-set, get_or-replicate, drop_of_length-le}
+use lib.ListN.{length-set, get_or-replicate, drop_of_length-le}
 use Rattle.seq.specs.Lists.{any_of, select}
-use Rattle.keys.specs.Keys.{key_buffers}
 use Rattle.free_buffers.proofs.Holding.{flag-step}
 use Rattle.free_buffers.proofs.held_buffers.Goals as goal
 

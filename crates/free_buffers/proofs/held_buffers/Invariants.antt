@@ -1,13 +1,10 @@
-use mathlib.Core.Path.{◌≡◌, refl, sym, ◌∙◌}
-use mathlib.Core.Bool.{false, ◌||◌, or-false}
+use mathlib.Core.Path.{◌≡◌}
+use mathlib.Core.Bool.{false, ◌||◌}
 use Prim.Native.Nat.{ℕ, ◌≤◌, ◌<◌, ◌-◌}
-use native.Mathlib.Omega.{arith}
-use borrow.Author.Rules.{rules}
 use lib.Dec.{eqb}
-use lib.ListN.{length, drop, get_or, length-set, get_or-replicate, drop_of_length-le}
-use Rattle.seq.specs.Lists.{any_of, select}
+use lib.ListN.{length, drop, get_or}
+use Rattle.seq.specs.Lists.{any_of}
 use Rattle.keys.specs.Keys.{key_buffers}
-use Rattle.free_buffers.proofs.Holding.{flag-step}
 use Rattle.free_buffers.proofs.held_buffers.Given as goal
 
 abbrev pub invariant-loop-i : goal.invariant-loop-i

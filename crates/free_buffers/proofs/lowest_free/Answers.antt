@@ -1,12 +1,8 @@
 -- `free_buffers::lowest_free` meets its contract: what the search finds from here is what it finds from the start.
 -- Assumes nothing.
-use mathlib.Core.Path.{◌≡◌, ap, ◌∙◌}
+use mathlib.Core.Path.{ap, ◌∙◌}
 use mathlib.Core.Bool.{false, not}
-use Prim.Native.Nat.{◌≤◌, ◌+◌, ◌-◌}
 use native.Mathlib.Omega.{arith}
-use borrow.Author.Rules.{rules}
-use lib.ListN.{length, drop}
-use Rattle.seq.specs.Lists.{lowest}
 use Rattle.seq.proofs.Walks.{lowest-hit, lowest-miss, lowest-end}
 use Rattle.free_buffers.proofs.lowest_free.Goals as goal
 

@@ -1,11 +1,8 @@
-use mathlib.Core.Path.{◌≡◌, ◌∙◌}
-use mathlib.Core.Bool.{false, not}
+use mathlib.Core.Path.{◌≡◌}
+use mathlib.Core.Bool.{not}
 use Prim.Native.Nat.{◌≤◌, ◌+◌, ◌-◌}
-use native.Mathlib.Omega.{arith}
-use borrow.Author.Rules.{rules}
 use lib.ListN.{length, drop}
 use Rattle.seq.specs.Lists.{lowest}
-use Rattle.seq.proofs.Walks.{lowest-hit, lowest-miss, lowest-end}
 use Rattle.free_buffers.proofs.lowest_free.Given as goal
 
 abbrev pub invariant-loop-i : goal.invariant-loop-i

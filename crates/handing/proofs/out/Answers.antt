@@ -1,12 +1,6 @@
 -- `handing::out` meets its contract: case by case, by what its parts ensure. Assumes nothing.
 use mathlib.Core.Bool.{true, false}
-use mathlib.Core.Path.{◌≡◌, sym, ap, ◌∙◌}
-use Prim.Native.Nat.{ℕ, ◌<◌, ◌≤◌}
-use borrow.Author.Rules.{rules}
-use lib.ListN.{length, length-set}
-use Rattle.seq.specs.Lists.{any_of, lowest}
-use Rattle.keys.specs.Keys.{key_wanted}
-use Rattle.picman.specs.OnKeys.{key_due, due_place}
+use mathlib.Core.Path.{sym, ◌∙◌}
 use Rattle.handing.proofs.DuePlace.{place-due, place-waits, place_none}
 use Rattle.picman.proofs.OutOnKeys.{due-fits, on-due, on-not-yet, on-no-more}
 use Rattle.handing.proofs.out.Goals as goal

@@ -1,12 +1,8 @@
-use mathlib.Core.Path.{◌≡◌, refl, sym, ap, ◌∙◌}
+use mathlib.Core.Path.{◌≡◌}
 use mathlib.Core.List.{map}
 use Prim.Native.Nat.{◌≤◌, ◌-◌}
-use native.Mathlib.Omega.{arith}
-use borrow.Author.Rules.{rules}
-use lib.ListN.{length, take, length-set}
-use lib.Seq.{take_all}
+use lib.ListN.{length, take}
 use Rattle.keys.specs.Keys.{key_unmarked}
-use Rattle.seq.proofs.Maps.{fill-turn}
 use Rattle.marking.proofs.picman_flush_pb.Given as goal
 
 abbrev pub invariant-loop-i : goal.invariant-loop-i

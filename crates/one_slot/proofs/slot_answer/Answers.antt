@@ -1,14 +1,7 @@
 -- `one_slot::slot_answer` meets its contract: 14, not marked, or the reason. Assumes nothing.
-use mathlib.Core.Path.{◌≡◌, sym, ◌∙◌}
+use mathlib.Core.Path.{sym, ◌∙◌}
 use mathlib.Core.Bool.{true}
-use mathlib.Core.List.{List, [], map}
-use Prim.Native.Nat.{ℕ, ◌<◌}
-use native.Mathlib.Omega.{arith}
-use lib.ListN.{length, get_or}
-use borrow.Author.Rules.{rules}
-use borrow.Author.Tests.{not-true, not-false}
-use Rattle.def.specs.State.{no_slot, is_present}
-use Rattle.keys.specs.Keys.{slot_at}
+use mathlib.Core.List.{[]}
 use Rattle.one_slot.proofs.SlotLaws.{held_below, told-not-marked, told-reason}
 use Rattle.one_slot.proofs.slot_answer.Goals as goal
 

@@ -1,11 +1,7 @@
 -- `store::count_marked` meets its contract: what is counted so far, with what is left, is the count of all. Assumes nothing.
-use mathlib.Core.Path.{◌≡◌, ap}
-use Prim.Native.Nat.{◌≤◌, ◌+◌, ◌-◌}
+use mathlib.Core.Path.{ap}
 use native.Mathlib.Omega.{arith}
-use borrow.Author.Rules.{rules}
 use mir.Val.{bool_byte}
-use lib.ListN.{length, drop}
-use Rattle.seq.specs.Lists.{count_if}
 use Rattle.seq.proofs.Walks.{counted, count-end}
 use Rattle.keys.specs.Keys.{key_marked}
 use Rattle.store.proofs.count_marked.Goals as goal

@@ -1,11 +1,7 @@
-use mathlib.Core.Path.{◌≡◌, ap}
+use mathlib.Core.Path.{◌≡◌}
 use Prim.Native.Nat.{◌≤◌, ◌+◌, ◌-◌}
-use native.Mathlib.Omega.{arith}
-use borrow.Author.Rules.{rules}
-use mir.Val.{bool_byte}
 use lib.ListN.{length, drop}
 use Rattle.seq.specs.Lists.{count_if}
-use Rattle.seq.proofs.Walks.{counted, count-end}
 use Rattle.keys.specs.Keys.{key_marked}
 use Rattle.store.proofs.count_marked.Given as goal
 

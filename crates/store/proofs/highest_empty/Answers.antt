@@ -1,10 +1,8 @@
 -- `store::highest_empty` meets its contract: no slot from here on is empty. Assumes nothing.
 use mathlib.Core.Path.{◌≡◌, sym, ap, ◌∙◌}
-use Prim.Native.Nat.{◌≤◌}
 use native.Mathlib.Omega.{arith}
-use borrow.Author.Rules.{rules}
 use mathlib.Core.Bool.{false, not}
-use lib.ListN.{length, drop, drop_of_length-le}
+use lib.ListN.{length, drop_of_length-le}
 use Rattle.seq.specs.Lists.{any_of}
 use Rattle.seq.proofs.Walks.{highest-found, none_from, highest-none}
 use Rattle.keys.specs.Keys.{key_empty}

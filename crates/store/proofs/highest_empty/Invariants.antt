@@ -1,11 +1,8 @@
-use mathlib.Core.Path.{◌≡◌, sym, ap, ◌∙◌}
+use mathlib.Core.Path.{◌≡◌}
 use Prim.Native.Nat.{◌≤◌}
-use native.Mathlib.Omega.{arith}
-use borrow.Author.Rules.{rules}
-use mathlib.Core.Bool.{false, not}
-use lib.ListN.{length, drop, drop_of_length-le}
+use mathlib.Core.Bool.{false}
+use lib.ListN.{length, drop}
 use Rattle.seq.specs.Lists.{any_of}
-use Rattle.seq.proofs.Walks.{highest-found, none_from, highest-none}
 use Rattle.keys.specs.Keys.{key_empty}
 use Rattle.store.proofs.highest_empty.Given as goal
 

@@ -1,10 +1,6 @@
 -- `store::lowest_idle` meets its contract: what the search finds from here is what it finds from the start. Assumes nothing.
-use mathlib.Core.Path.{◌≡◌, sym, ◌∙◌}
-use Prim.Native.Nat.{◌+◌, ◌-◌, ◌≤◌}
+use mathlib.Core.Path.{sym, ◌∙◌}
 use native.Mathlib.Omega.{arith}
-use borrow.Author.Rules.{rules}
-use lib.ListN.{length, drop}
-use Rattle.seq.specs.Lists.{lowest}
 use Rattle.seq.proofs.Walks.{lowest-hit, lowest-miss, lowest-end}
 use Rattle.keys.specs.Keys.{key_idle}
 use Rattle.store.proofs.lowest_idle.Goals as goal

@@ -1,10 +1,7 @@
-use mathlib.Core.Path.{◌≡◌, sym, ◌∙◌}
+use mathlib.Core.Path.{◌≡◌}
 use Prim.Native.Nat.{◌+◌, ◌-◌, ◌≤◌}
-use native.Mathlib.Omega.{arith}
-use borrow.Author.Rules.{rules}
 use lib.ListN.{length, drop}
 use Rattle.seq.specs.Lists.{lowest}
-use Rattle.seq.proofs.Walks.{lowest-hit, lowest-miss, lowest-end}
 use Rattle.keys.specs.Keys.{key_idle}
 use Rattle.store.proofs.lowest_idle.Given as goal
 

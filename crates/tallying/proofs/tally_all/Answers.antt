@@ -1,13 +1,13 @@
 -- `tallying::tally_all` meets its contract: what is gathered so far, with what is left, gives what all keys give. Assumes nothing.
 use mathlib.Core.Path.{◌≡◌, refl}
 use mathlib.Core.List.{List}
-use Prim.Native.Nat.{ℕ, ◌+◌, ◌≤◌, ◌<◌, ◌-◌, ◌%◌}
+use Prim.Native.Nat.{ℕ, ◌+◌, ◌<◌}
 use native.Mathlib.Omega.{arith}
 use lib.ListN.{length, get_or}
 use Rattle.def.specs.State.{slots}
 use Rattle.tallying.specs.declared.Tally.{Tally}
 use Rattle.tallying.specs.Tallies.{Roomy, tallied}
-use Rattle.tallying.proofs.TallyLaws.{Passing, passing-none, passing-room, passing-turn, passing-end}
+use Rattle.tallying.proofs.TallyLaws.{Passing, passing-room, passing-turn, passing-end}
 use Rattle.tallying.proofs.tally_all.Goals as goal
 
 -- Three keys from place i on.

@@ -1,10 +1,9 @@
 -- `tallying::tally_three` meets its contract: the key of an empty slot adds nothing, and else each key is gathered in turn. Assumes nothing.
-use mathlib.Core.Path.{◌≡◌, refl, sym, ◌∙◌}
+use mathlib.Core.Path.{◌≡◌, sym, ◌∙◌}
 use mathlib.Core.Bool.{true, ◌&&◌}
 use Prim.Native.Nat.{ℕ}
 use lib.Bits.{or_zero_r}
 use lib.Dec.{eqb}
-use borrow.Author.Rules.{rules}
 use borrow.Author.Tests.{eqb-true}
 use Rattle.seq.proofs.Tests.{and_left, and_right}
 use Rattle.tallying.specs.declared.Tally.{Tally}

@@ -1,6 +1,6 @@
 -- `walking::pass` meets its contract. The loop's invariant is the walk after i keys; the measure is how many keys are left.
 -- Assumes nothing.
-use Prim.Native.Nat.{ℕ, suc, ◌+◌, ◌-◌, ◌≤◌, ◌<◌}
+use Prim.Native.Nat.{ℕ, suc, ◌+◌, ◌≤◌, ◌<◌}
 use mathlib.Core.Path.{◌≡◌, ap}
 use mathlib.Core.Bool.{Bool, true, false}
 use mathlib.Core.List.{List, ◌∷◌}
@@ -13,7 +13,6 @@ use Rattle.passes.specs.InNumbers.{place_of, ask_in, PassRoom}
 use Rattle.passes.specs.Passes.{takes_key, pass_step, walked}
 use Rattle.ordering.proofs.Insertion.{keys_length}
 use Rattle.passes.proofs.Steps.{Walk, next-key, walk_start, walk-full, walk_end, walk-leaves, walk-room, walk-takes}
-use Rattle.passes.proofs.Walked.{place-below}
 use Rattle.walking.proofs.pass.Goals as goal
 
 -- the step of the walk over the key at place p, which comes after i others

@@ -1,5 +1,4 @@
 -- `wholeness::is_whole` meets its contract: the tests of what was gathered are the rules, for any rows. Assumes nothing.
-use borrow.Author.Rules.{rules}
 use Rattle.wholeness.proofs.KeyRules.{whole-told}
 use Rattle.wholeness.proofs.is_whole.Goals as goal
 

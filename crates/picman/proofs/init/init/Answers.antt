@@ -1,5 +1,4 @@
 -- `picman::init::init` meets its contract: its two returns. Assumes nothing.
-use borrow.Author.Rules.{rules}
 use Rattle.picman.proofs.InitOnKeys.{on-too-big, on-set}
 use Rattle.picman.proofs.init.init.Goals as goal
 
