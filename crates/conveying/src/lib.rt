@@ -77,8 +77,18 @@ fn turns<R: Read, W: Write, E: Write>(
     let mut handed = turn(rt, kind, held, spot, input, output, errors, piece, out, err);
     let mut left = u64::MAX;
     while 0 < left && goes_on(handed) {
-        let at = handed.spoken.spot;
-        handed = turn(rt, kind, held, at, input, output, errors, piece, out, err);
+        handed = turn(
+            rt,
+            kind,
+            held,
+            handed.spoken.spot,
+            input,
+            output,
+            errors,
+            piece,
+            out,
+            err,
+        );
         left -= 1;
     }
     handed

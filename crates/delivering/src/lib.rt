@@ -47,8 +47,7 @@ pub fn give<W: Write, E: Write>(
 {
     let m = handed.spoken.err;
     let n = handed.spoken.out;
-    let told = write_whole(errors, &err[..m]);
-    let _ = told;
+    let _ = write_whole(errors, &err[..m]);
     if let Err(e) = write_whole(output, &out[..n]) {
         let _ = eprintln!(rt; "picman: write: {e}");
         return Handed {
@@ -79,8 +78,7 @@ pub fn idle(spot: Spot, heard: Heard, went: Went) -> Handed
 pub fn goes_on(handed: Handed) -> bool
     ensures { result ≡ is_on handed.went }
 {
-    let went = handed.went;
-    match went {
+    match handed.went {
         Went::On => true,
         Went::InputEnded => false,
         Went::ReadFailed => false,
@@ -91,8 +89,7 @@ pub fn goes_on(handed: Handed) -> bool
 pub fn has_ended(handed: Handed) -> bool
     ensures { result ≡ is_end handed.went }
 {
-    let went = handed.went;
-    match went {
+    match handed.went {
         Went::On => false,
         Went::InputEnded => true,
         Went::ReadFailed => false,

@@ -106,4 +106,4 @@ module _ {A : Type 0} (kind : Kind A) (Fits : A → Type 0) (lawful : Lawful kin
   differ a b f g e = let p : some a ≡ some b = sym (back a f) ∙ ap (from_line kind) e ∙ back b g in cc
 
 pub lines-faithful : LinesFaithful
-lines-faithful A kind Fits lawful = record { reads-back = back kind Fits lawful; one_line = one kind Fits lawful; lines-differ = differ kind Fits lawful }
+lines-faithful A kind Fits lawful = record { reads_back = back kind Fits lawful; one_line = one kind Fits lawful; lines_differ = differ kind Fits lawful }

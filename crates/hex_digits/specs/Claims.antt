@@ -26,9 +26,9 @@ module _ {A : Type 0} where
   LinesDiffer kind Fits = (a b : A) → Fits a → Fits b → line_of kind a ≡ line_of kind b → a ≡ b
 
   pub record Faithful (kind : Kind A) (Fits : A → Type 0) : Type 0 where
-    pub reads-back : ReadsBack kind Fits
+    pub reads_back : ReadsBack kind Fits
     pub one_line : OneLine kind
-    pub lines-differ : LinesDiffer kind Fits
+    pub lines_differ : LinesDiffer kind Fits
 
 -- The three, shown once over the kinds of line.
 abbrev pub LinesFaithful : Type 1

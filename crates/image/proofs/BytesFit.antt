@@ -64,5 +64,5 @@ module _ {bs : List ℕ} (bytes : Bytes bs) where
     kept = poc-fits;
   }
 
-pub bytes_fit : BytesFit
-bytes_fit = λ bs bytes. contents-fit bytes
+pub bytes-fit : BytesFit
+bytes-fit = λ bs bytes. contents-fit bytes

@@ -101,9 +101,9 @@ length-told fields target = let w = (written fields target).given in in-high-bit
 pub length-short : LengthShort
 length-short fields target = rw (length-told fields target) (length-small fields target)
 
-pub refused_leaves : RefusedLeaves
+pub refused-leaves : RefusedLeaves
 unfolding wrote_out
-refused_leaves fields target h = by (written fields target).given refl (rw (status-told fields target) at h)
+refused-leaves fields target h = by (written fields target).given refl (rw (status-told fields target) at h)
   where
     by : (w : Written) → (written fields target).given ≡ w → 1 ≤ written_status w → (written fields target).target ≡ target
     by (Written.Line n) e k = absurd (omega arith)

@@ -37,14 +37,14 @@ wrote-more LastWriteFailed a b c xs ys h k = front-more a b c xs ys h k
 
 -- ---- so many turns
 
-pub record Reached (left left' held held' : Option (List ℕ)) (keys rows : List ℕ) (s : Session) (t : Handed) (keys' rows' piece' out' : List ℕ) (n : ℕ)
+pub record Reached (left left' wrote wrote' : Option (List ℕ)) (keys rows : List ℕ) (s : Session) (t : Handed) (keys' rows' piece' out' : List ℕ) (n : ℕ)
     : Type 0 where
   pub pieces : List (List ℕ)
   pub given : List ℕ
   pub turns : Turns keys rows s pieces given t keys' rows' piece' out'
   pub number : length pieces ≡ n
   pub reads : Consumes left left' (joined pieces)
-  pub writes : Wrote t.went held held' given
+  pub writes : Wrote t.went wrote wrote' given
   pub at_end : t.went ≡ InputEnded → 0 < length piece' → IsAtEnd left'
 
 pub is-on : (w : Went) → is_on w ≡ true → w ≡ On
@@ -54,10 +54,10 @@ is-on ReadFailed e = cc
 is-on WriteFailed e = cc
 is-on LastWriteFailed e = cc
 
-pub reach-first : {left left' held held' : Option (List ℕ)} {keys rows keys' rows' : List ℕ} (piece' out' : List ℕ) {s : Session} {t : Handed} (out : List ℕ)
-    → Turned t.went keys rows s out t keys' rows' piece' out' → Consumes left left' (brought_by t piece') → Wrote t.went held held' (take t.written out')
+pub reach-first : {left left' wrote wrote' : Option (List ℕ)} {keys rows keys' rows' : List ℕ} (piece' out' : List ℕ) {s : Session} {t : Handed} (out : List ℕ)
+    → Turned t.went keys rows s out t keys' rows' piece' out' → Consumes left left' (brought_by t piece') → Wrote t.went wrote wrote' (take t.written out')
     → (t.went ≡ InputEnded → 0 < length piece' → IsAtEnd left')
-    → Reached left left' held held' keys rows s t keys' rows' piece' out' 1
+    → Reached left left' wrote wrote' keys rows s t keys' rows' piece' out' 1
 reach-first {left} {left'} piece' out' {t = t} out turned reads writes end = record {
   pieces = brought_by t piece' ∷ [];
   given = take t.written out';
@@ -68,14 +68,14 @@ reach-first {left} {left'} piece' out' {t = t} out turned reads writes end = rec
   at_end = end;
 }
 
-pub reach-next : {left left' left'' held held' held'' : Option (List ℕ)} {keys rows keys' rows' piece' out' keys'' rows'' : List ℕ}
+pub reach-next : {left left' left'' wrote wrote' wrote'' : Option (List ℕ)} {keys rows keys' rows' piece' out' keys'' rows'' : List ℕ}
     (piece'' out'' : List ℕ) {s : Session} {t u : Handed} {n : ℕ}
-    → Reached left left' held held' keys rows s t keys' rows' piece' out' n → is_on t.went ≡ true
+    → Reached left left' wrote wrote' keys rows s t keys' rows' piece' out' n → is_on t.went ≡ true
     → Turned u.went keys' rows' t.session out' u keys'' rows'' piece'' out''
-    → Consumes left' left'' (brought_by u piece'') → Wrote u.went held' held'' (take u.written out'')
+    → Consumes left' left'' (brought_by u piece'') → Wrote u.went wrote' wrote'' (take u.written out'')
     → (u.went ≡ InputEnded → 0 < length piece'' → IsAtEnd left'')
-    → Reached left left'' held held'' keys rows s u keys'' rows'' piece'' out'' (n + 1)
-reach-next {left} {left'} {left''} {held} {held'} {held''} piece'' out'' {t = t} {u} r on turned reads writes end =
+    → Reached left left'' wrote wrote'' keys rows s u keys'' rows'' piece'' out'' (n + 1)
+reach-next {left} {left'} {left''} {wrote} {wrote'} {wrote''} piece'' out'' {t = t} {u} r on turned reads writes end =
     let went = is-on t.went on in
     record {
       pieces = r.pieces ++ (brought_by u piece'' ∷ []);
@@ -86,13 +86,13 @@ reach-next {left} {left'} {left''} {held} {held'} {held''} piece'' out'' {t = t}
           subst (λ (w : List ℕ). Consumes left left'' w) (sym (joined-snoc r.pieces (brought_by u piece'')))
           (consumes-more left left' left'' (joined r.pieces) (brought_by u piece'') r.reads reads);
       writes =
-          wrote-more u.went held held' held'' r.given (take u.written out'') (subst (λ (w : Went). Wrote w held held' r.given) went r.writes)
+          wrote-more u.went wrote wrote' wrote'' r.given (take u.written out'') (subst (λ (w : Went). Wrote w wrote wrote' r.given) went r.writes)
           writes;
       at_end = end;
     }
 
-pub renumber : {left left' held held' : Option (List ℕ)} {keys rows keys' rows' piece' out' : List ℕ} {s : Session} {t : Handed} {m : ℕ} (n : ℕ) → m ≡ n
-    → Reached left left' held held' keys rows s t keys' rows' piece' out' m → Reached left left' held held' keys rows s t keys' rows' piece' out' n
+pub renumber : {left left' wrote wrote' : Option (List ℕ)} {keys rows keys' rows' piece' out' : List ℕ} {s : Session} {t : Handed} {m : ℕ} (n : ℕ) → m ≡ n
+    → Reached left left' wrote wrote' keys rows s t keys' rows' piece' out' m → Reached left left' wrote wrote' keys rows s t keys' rows' piece' out' n
 renumber n e r = record {
   pieces = r.pieces;
   given = r.given;
@@ -104,9 +104,9 @@ renumber n e r = record {
 }
 
 -- The loop stops where a turn does not go on, or where all are used up.
-pub looped : {left left' held held' : Option (List ℕ)} {keys rows keys' rows' piece' out' : List ℕ} {s : Session} {t : Handed} {n : ℕ}
-    → Reached left left' held held' keys rows s t keys' rows' piece' out' n → (t.went ≡ On → n ≡ most_turns)
-    → LoopedOver left left' held held' keys rows s t keys' rows' piece' out'
+pub looped : {left left' wrote wrote' : Option (List ℕ)} {keys rows keys' rows' piece' out' : List ℕ} {s : Session} {t : Handed} {n : ℕ}
+    → Reached left left' wrote wrote' keys rows s t keys' rows' piece' out' n → (t.went ≡ On → n ≡ most_turns)
+    → LoopedOver left left' wrote wrote' keys rows s t keys' rows' piece' out'
 looped r e = record {
   looped = record { pieces = r.pieces; given = r.given; turns = r.turns; used_up = λ on. r.number ∙ e on };
   reads = r.reads;

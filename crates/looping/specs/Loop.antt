@@ -41,9 +41,9 @@ pub record Looped (keys rows : List ℕ) (s : Session) (t : Handed) (keys' rows'
 
 -- What the turns read is what the reader lost, and what they gave is what the writer got, where the bytes of either are known; where a
 -- write failed the writer got a beginning of it.
-pub record LoopedOver (left left' held held' : Option (List ℕ)) (keys rows : List ℕ) (s : Session) (t : Handed) (keys' rows' piece' out' : List ℕ)
+pub record LoopedOver (left left' wrote wrote' : Option (List ℕ)) (keys rows : List ℕ) (s : Session) (t : Handed) (keys' rows' piece' out' : List ℕ)
     : Type 0 where
   pub looped : Looped keys rows s t keys' rows' piece' out'
   pub reads : Consumes left left' (joined looped.pieces)
-  pub writes : Wrote t.went held held' looped.given
+  pub writes : Wrote t.went wrote wrote' looped.given
   pub at_end : t.went ≡ InputEnded → 0 < length piece' → IsAtEnd left'

@@ -28,11 +28,11 @@ use Rattle.picman.specs.{Put.put, Put.remarked}
 use Rattle.picman.specs.Claims.{InitTurnedDown, GetTurnedDown, PutTurnedDown, OutTurnedDown}
 use Rattle.picman.specs.Claims as claims
 use Rattle.picman.proofs.InitLaws.{init-refused, init-why, init-keeps-whole, init-keeps-slots}
-use Rattle.picman.proofs.GetLaws.{get_refused, get-why}
+use Rattle.picman.proofs.GetLaws.{get-refused, get-why}
 use Rattle.picman.proofs.GetKeeps.{get-keeps-whole, get-keeps-size}
 use Rattle.picman.proofs.OutLaws.{out-refused, out-why, out-keeps-whole, out-keeps-size}
 use Rattle.picman.proofs.Keeps.{remarked-size}
-use Rattle.picman.proofs.PutLaws.{Puts, puts, put_refused, put-why, put-safe}
+use Rattle.picman.proofs.PutLaws.{Puts, puts, put-refused, put-why, put-safe}
 use Rattle.picman.proofs.PutLaws as put-laws
 use Rattle.line.specs.declared.Call.TheVariants.{Init, GetEmptyPic, PutPic, OutPic, RefpInit, PocDerivation}
 use Rattle.line.specs.declared.Line.TheVariants.{Good, Bad}
@@ -67,9 +67,9 @@ with_record m p = record { pm = m.pm; refp = m.refp; poc = p }
 pub call-unchanged : CallUnchanged
 unfolding step
 call-unchanged m (Init size refs) t = refused-answer 1 _ t (λ why e. ap (with_state m) (init-refused m.pm size refs why e))
-call-unchanged m GetEmptyPic t = refused-answer 2 _ t (λ why e. ap (with_state m) (get_refused m.pm why e))
+call-unchanged m GetEmptyPic t = refused-answer 2 _ t (λ why e. ap (with_state m) (get-refused m.pm why e))
 call-unchanged m (PutPic flags poc tid gap) t =
-    refused-answer 3 _ t (λ why e. ap (with_state m) (put_refused m.pm m.refp (put_call_of flags poc tid gap) why e))
+    refused-answer 3 _ t (λ why e. ap (with_state m) (put-refused m.pm m.refp (put_call_of flags poc tid gap) why e))
 call-unchanged m OutPic t = refused-answer 4 _ t (λ why e. ap (with_state m) (out-refused m.pm why e))
 call-unchanged m (RefpInit slice poc layer intra limit) t =
     refused-answer 5 _ t

@@ -19,18 +19,17 @@ pub fn add(out: &mut [u8], at: usize, text: &[u8]) -> usize
     at + n
 }
 
-// A number in decimal, of no more digits than are given.
+// A number in decimal, of `most` digits at most.
 fn add_digits(out: &mut [u8], at: usize, n: u64, most: usize) -> usize
     requires room { at + most ≤ length out.old }
     requires enough { (0 < most) × (n < 10 ^ most) }
     ensures added { Added out.old at (decimal_from most n) result out.new }
     ensures short { result ≤ at + most }
 {
-    let fewer = most - 1;
     if n < 10 {
         return add(out, at, &[b'0' + n as u8]);
     }
-    let next = add_digits(out, at, n / 10, fewer);
+    let next = add_digits(out, at, n / 10, most - 1);
     add(out, next, &[b'0' + (n % 10) as u8])
 }
 

@@ -5,7 +5,7 @@ use relaying::relay;
 use telling::Kind;
 
 fn main(rt: HostRuntime) {
-    let _ = relay(
+    relay(
         &rt,
         Kind::Ask,
         &mut rt.stdin(),

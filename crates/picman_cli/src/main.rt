@@ -4,5 +4,5 @@
 use serve::serve;
 
 fn main(rt: HostRuntime) {
-    let _ = serve(&rt, &mut rt.stdin(), &mut rt.stdout());
+    serve(&rt, &mut rt.stdin(), &mut rt.stdout());
 }

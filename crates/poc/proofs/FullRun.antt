@@ -90,8 +90,8 @@ all-accepted (c ∷ cs) L p t m d r short known at h =
     (ap {B = List Step} (λ l. step r c ∷ l)
     (all-accepted cs L p c.layer a.left _ (step r c).after short known a.place (rest-tail L p t m d (step r c) (run (step r c).after cs) h a)))
 
-pub none_turned_down : NoneTurnedDown
-none_turned_down L p r calls short known key h =
+pub none-turned-down : NoneTurnedDown
+none-turned-down L p r calls short known key h =
     all-accepted calls L p 0 0 0 r short known
     (record { previous = key.previous; offset = key.offset; low = omega arith; top = refl })
     (later-rest L (run r calls) h)
@@ -208,5 +208,5 @@ module _ (L : ℕ) (r : EvcPoc) where
 
 pub full-run-exists : FullRunExists
 full-run-exists L p r short known key =
-    let e = none_turned_down L p r (full_run L) short known key (full_meets L r) in
+    let e = none-turned-down L p r (full_run L) short known key (full_meets L r) in
     record { none_turned_down = e; meets = rw e (full_meets L r); full = rw e (full-length L r) }

@@ -135,7 +135,7 @@ written-lines (r ∷ rs) f = rw (written-lines rs f.1) at (answer-first r (flat_
 
 digits-read : (at : ℕ) (r : Reply) → ReplyFits r → read_line_as at (answer_digits r) ≡ Read.Answer r
 unfolding answer_digits answer_kind
-digits-read at r f = rw (answers-faithful.reads-back r f)
+digits-read at r f = rw (answers-faithful.reads_back r f)
 
 read_back : (rs : List Reply) (at : ℕ) → AllFit rs → reads_of at (map answer_digits rs) ≡ map Read.Answer rs
 unfolding AllFit reads_of

@@ -1,6 +1,5 @@
 // A reader of answer lines: it walks a lent buffer and remembers how far it has come. The functions on a slice and a position do the work and
-// serve every caller that keeps its own position; the struct is thin over them, since what works on a struct that holds a reference is proved
-// by hand.
+// serve every caller that keeps its own position; the struct is thin over them.
 #![tactic(auto)]
 
 ghost use Rattle.std.specs.Prelude.{◌≡◌};
@@ -53,7 +52,7 @@ pub fn after_line(lines: &[u8], at: usize) -> usize
     end
 }
 
-#[derive(Clone, Copy)]
+#[derive(Drop)]
 pub struct AnswerReader<'a> {
     pub lines: &'a [u8],
     pub at: usize,

@@ -1,4 +1,4 @@
-// A read of what is there, repeated where a signal interrupts it.
+// One read from a reader, repeated where a signal interrupts it.
 #![tactic(auto)]
 
 ghost use Rattle.std.specs.Prelude.{IsTrue, ◌↔◌, ◌≡◌, length};

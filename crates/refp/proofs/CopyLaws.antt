@@ -65,8 +65,8 @@ copy-why refp cnt lidx src why = (because (copy-end refp cnt lidx src), λ r. rw
 pub copy-refused-unchanged : CopyRefusedUnchanged
 copy-refused-unchanged refp cnt lidx src why a = rw (reason-refuses refp cnt lidx src ((copy-why refp cnt lidx src why).0 a))
 
-pub copy_writes : CopyWrites
-copy_writes refp cnt lidx src none = pick (copy-end refp cnt lidx src)
+pub copy-writes : CopyWrites
+copy-writes refp cnt lidx src none = pick (copy-end refp cnt lidx src)
   where
     pick : {r : CopyResult} → CopyEnd refp cnt lidx src r → r ≡ record { answer = Answer.Done; refp = set refp (lidx * list_places + cnt) src }
     pick (refuses why k) = absurd (none why k)

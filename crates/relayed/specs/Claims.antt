@@ -6,7 +6,7 @@ use Rattle.pouring.specs.Pouring.{AppendsFront}
 use Rattle.asking.specs.Asked.{Texts}
 use Rattle.telling.specs.declared.Kind.{Kind}
 use Rattle.telling.specs.Told.{joined, told_input}
-use Rattle.delivering.specs.declared.{Handed.Handed}
+use Rattle.delivering.specs.declared.Handed.{Handed}
 use Rattle.delivering.specs.declared.Went.TheVariants.{InputEnded}
 use Rattle.conveying.specs.Conveying.{given_by, Looped, Served, Fronts}
 use Rattle.relaying.specs.Relaying.{new_held, new_spot, PassedNew}

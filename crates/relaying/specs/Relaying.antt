@@ -19,7 +19,7 @@ pub record RelayedNew (kind : Kind) (t : Handed) : Type 0 where
   pub err' : List ℕ
   pub relayed : Relayed kind new_held new_spot t out' err'
 
--- What was read and written of it; a read brings at most `size` bytes.
+-- What was read and written of it; `size` is the length of the piece.
 pub record PassedNew (left left' wrote wrote' said said' : Option (List ℕ)) (kind : Kind) (t : Handed) : Type 0 where
   pub out' : List ℕ
   pub err' : List ℕ

@@ -12,7 +12,7 @@ use std::rt::Files;
 fn replay<W: Write>(rt: &(impl Files + Eprint), output: &mut W, path: &str) {
     match fs::open(rt, path) {
         Ok(mut input) => {
-            let _ = serve(rt, &mut input, output);
+            serve(rt, &mut input, output);
         }
         Err(e) => {
             let _ = eprintln!(rt; "{path}: {e}");

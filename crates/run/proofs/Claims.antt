@@ -64,8 +64,8 @@ unfolding feed
 feed-sound r [] s = s
 feed-sound r (c ∷ cs) s = feed-sound (feed_byte r c).runner cs (byte-sound r c s (is_newline c))
 
-pub run_sound : RunSound
-run_sound input = feed-sound start input new-sound
+pub run-sound : RunSound
+run-sound input = feed-sound start input new-sound
 
 pub run-not-seven : RunNotSeven
-run-not-seven input line e = line-not-seven _ (read_line line) (run_sound input) e
+run-not-seven input line e = line-not-seven _ (read_line line) (run-sound input) e

@@ -11,13 +11,13 @@ use Rattle.sizing.proofs.Sized.{sized-long}
 use Rattle.running.specs.Slices.{scalars_at, reply_to}
 use Rattle.running.specs.Claims.{WrongSize, NotWhole}
 
-pub wrong_size : WrongSize
+pub wrong-size : WrongSize
 unfolding reply_to
-wrong_size s line e = rw e
+wrong-size s line e = rw e
 
-pub not_whole : NotWhole
+pub not-whole : NotWhole
 unfolding reply_to step_line
-not_whole s call e reads w =
+not-whole s call e reads w =
     let scalars : Scalars = scalars_at s.registers in
     let called : Called = record { answer = Answer.Refused Refusal.StateNotWhole; rest = scalars.rest } in
     let makes = running.refused-makes scalars (sized-long s e).0 call (rw (reads, w)) (made_of (call_byte call) called scalars.poc) refl in

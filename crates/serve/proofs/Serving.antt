@@ -1,6 +1,6 @@
 -- The loop begins with room for the answers, and what its end comes to.
 -- Assumes nothing.
-use Rattle.std.proofs.Common.{◌≡◌, ℕ, true, List, length, take, refl, sym, ap, ◌∙◌, subst, arith}
+use Rattle.std.proofs.Common.{◌≡◌, ◌*◌, ◌≤◌, ℕ, true, List, length, take, refl, sym, ap, ◌∙◌, subst, arith}
 use Rattle.std.specs.Prelude.{Option}
 use Rattle.std.proofs.lemmas.List.{length-replicate}
 use Rattle.def.specs.State.{slots}
@@ -12,14 +12,14 @@ use Rattle.machine.specs.Running.{Runs}
 use Rattle.machine.proofs.Running.{new-machine}
 use Rattle.machine.proofs.EveryCall.{new-sound}
 use Rattle.run.specs.declared.Session.{Session}
-use Rattle.run.specs.Session.{NewSession, new_keys, new_rows, SoundSession}
+use Rattle.run.specs.Session.{NewSession, new_keys, new_rows, answer_size, SoundSession}
 use Rattle.giving.specs.declared.{Went.Went, Handed.Handed}
 use Rattle.giving.specs.declared.Went.TheVariants.{On, InputEnded, ReadFailed, WriteFailed, LastWriteFailed}
 use Rattle.giving.specs.Giving.{is_final, Finished, Wrote}
 use Rattle.turning.specs.Turning.{TurnRoom}
 use Rattle.looping.specs.Loop.{LoopedOver}
 use Rattle.looping.proofs.Looping.{wrote-more}
-use Rattle.serve.specs.Served.{is_end, EndedOver, Passed}
+use Rattle.serve.specs.Served.{is_end, PassedAll, Passed}
 
 new-runs : (s : Session) → NewSession s → SoundSession new_keys new_rows s
 new-runs s new = record {
@@ -30,10 +30,10 @@ new-runs s new = record {
   room = new.new_room;
 }
 
--- The loop begins with room for an answer to each byte of a piece.
-pub new-room : {s : Session} {tables : List ℕ} (piece out : List ℕ) → NewSession s → tables ≡ digit_tables → length piece ≡ 16384
-    → length out ≡ 278528 → TurnRoom new_keys new_rows s tables piece out
-new-room {s} piece out new e p o = record { sound = new-runs s new; tables_are = e; answers_fit = omega arith; answer_fits = omega arith }
+-- The loop begins with room for an answer to each byte of a piece: by the two sizes.
+pub new-room : {s : Session} {tables : List ℕ} (piece out : List ℕ) {n m : ℕ} → NewSession s → tables ≡ digit_tables → length piece ≡ n → length out ≡ m
+    → answer_size * n ≤ m → answer_size ≤ m → TurnRoom new_keys new_rows s tables piece out
+new-room piece out new e p o many one = record { sound = new-runs _ new; tables_are = e; answers_fit = rw (p, o) many; answer_fits = rw o one }
 
 pub is-end : (w : Went) → is_end w ≡ true → w ≡ InputEnded
 is-end On h = cc
@@ -42,24 +42,24 @@ is-end ReadFailed h = cc
 is-end WriteFailed h = cc
 is-end LastWriteFailed h = cc
 
-pub ended-over : {left left' held held₁ held' : Option (List ℕ)} {keys rows keys₁ rows₁ out₁ keys' rows' : List ℕ} (piece' out' : List ℕ)
-    {s : Session} {last t : Handed} → LoopedOver left left' held held₁ keys rows s last keys₁ rows₁ piece' out₁ → is_end last.went ≡ true
-    → Finished keys₁ rows₁ last out₁ t keys' rows' out' → Wrote t.went held₁ held' (take t.written out')
-    → EndedOver left left' held held' keys rows s t keys' rows' piece' out'
-ended-over {held = held} {held₁} {held'} piece' out' {last = last} {t} l h f w =
+pub passed-all : {left left' wrote wrote₁ wrote' : Option (List ℕ)} {keys rows keys₁ rows₁ out₁ keys' rows' : List ℕ} (piece' out' : List ℕ)
+    {s : Session} {last t : Handed} → LoopedOver left left' wrote wrote₁ keys rows s last keys₁ rows₁ piece' out₁ → is_end last.went ≡ true
+    → Finished keys₁ rows₁ last out₁ t keys' rows' out' → Wrote t.went wrote₁ wrote' (take t.written out')
+    → PassedAll left left' wrote wrote' keys rows s t keys' rows' piece' out'
+passed-all {wrote = wrote} {wrote₁} {wrote'} piece' out' {last = last} {t} l h f w =
     let e = is-end last.went h in
     record {
       ended = record { last = last; keys₁ = _; rows₁ = _; piece₁ = _; out₁ = _; looped = l.looped; input_ended = e; finished = f };
       reads = l.reads;
       writes =
-          wrote-more t.went held held₁ held' l.looped.given (take t.written out')
-          (subst (λ (v : Went). Wrote v held held₁ l.looped.given) e l.writes) w;
+          wrote-more t.went wrote wrote₁ wrote' l.looped.given (take t.written out')
+          (subst (λ (v : Went). Wrote v wrote wrote₁ l.looped.given) e l.writes) w;
       at_end = l.at_end e;
     }
 
-pub passed-end : {left left' held held' : Option (List ℕ)} {keys rows keys' rows' piece' out' : List ℕ} {s : Session} {t : Handed} (w : Went)
-    → is_final w ≡ true → EndedOver left left' held held' keys rows s t keys' rows' piece' out'
-    → Passed w left left' held held' keys rows s t keys' rows' piece' out'
+pub passed-end : {left left' wrote wrote' : Option (List ℕ)} {keys rows keys' rows' piece' out' : List ℕ} {s : Session} {t : Handed} (w : Went)
+    → is_final w ≡ true → PassedAll left left' wrote wrote' keys rows s t keys' rows' piece' out'
+    → Passed w left left' wrote wrote' keys rows s t keys' rows' piece' out'
 passed-end On h d = cc
 passed-end InputEnded h d = d
 passed-end ReadFailed h d = cc

@@ -48,18 +48,18 @@ pub record ServedNew (t : Handed) : Type 0 where
   pub served : Served t.went new_keys new_rows session t keys' rows' piece' out'
 
 -- The input has ended, it is all that the reader had, and the writer got what was given, or a beginning of it where the last write failed.
-pub record EndedOver (left left' held held' : Option (List ℕ)) (keys rows : List ℕ) (s : Session) (t : Handed) (keys' rows' piece' out' : List ℕ)
+pub record PassedAll (left left' wrote wrote' : Option (List ℕ)) (keys rows : List ℕ) (s : Session) (t : Handed) (keys' rows' piece' out' : List ℕ)
     : Type 0 where
   pub ended : Ended keys rows s t keys' rows' out'
   pub reads : Consumes left left' (joined ended.looped.pieces)
-  pub writes : Wrote t.went held held' (ended.looped.given ++ take t.written out')
+  pub writes : Wrote t.went wrote wrote' (ended.looped.given ++ take t.written out')
   pub at_end : 0 < length piece' → IsAtEnd left'
 
 -- What the loop hands on, and what it read and wrote, by how it ended.
 abbrev pub Passed : Went → Option (List ℕ) → Option (List ℕ) → Option (List ℕ) → Option (List ℕ) → List ℕ → List ℕ → Session → Handed
     → List ℕ → List ℕ → List ℕ → List ℕ → Type 0
-Passed On left left' held held' keys rows s t keys' rows' piece' out' = LoopedOver left left' held held' keys rows s t keys' rows' piece' out'
-Passed ReadFailed left left' held held' keys rows s t keys' rows' piece' out' = LoopedOver left left' held held' keys rows s t keys' rows' piece' out'
-Passed WriteFailed left left' held held' keys rows s t keys' rows' piece' out' = LoopedOver left left' held held' keys rows s t keys' rows' piece' out'
-Passed InputEnded left left' held held' keys rows s t keys' rows' piece' out' = EndedOver left left' held held' keys rows s t keys' rows' piece' out'
-Passed LastWriteFailed left left' held held' keys rows s t keys' rows' piece' out' = EndedOver left left' held held' keys rows s t keys' rows' piece' out'
+Passed On left left' wrote wrote' keys rows s t keys' rows' piece' out' = LoopedOver left left' wrote wrote' keys rows s t keys' rows' piece' out'
+Passed ReadFailed left left' wrote wrote' keys rows s t keys' rows' piece' out' = LoopedOver left left' wrote wrote' keys rows s t keys' rows' piece' out'
+Passed WriteFailed left left' wrote wrote' keys rows s t keys' rows' piece' out' = LoopedOver left left' wrote wrote' keys rows s t keys' rows' piece' out'
+Passed InputEnded left left' wrote wrote' keys rows s t keys' rows' piece' out' = PassedAll left left' wrote wrote' keys rows s t keys' rows' piece' out'
+Passed LastWriteFailed left left' wrote wrote' keys rows s t keys' rows' piece' out' = PassedAll left left' wrote wrote' keys rows s t keys' rows' piece' out'

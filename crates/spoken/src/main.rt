@@ -18,7 +18,7 @@ fn run<W: Write, E: Write>(
 ) {
     match fs::open(rt, path) {
         Ok(mut input) => {
-            let _ = relay(rt, kind, &mut input, output, errors);
+            relay(rt, kind, &mut input, output, errors);
         }
         Err(e) => {
             let _ = eprintln!(rt; "{path}: {e}");

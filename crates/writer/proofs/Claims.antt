@@ -65,7 +65,7 @@ refused-unwritten fields target why e = by (is_call_body fields) (ltb (length ta
 
 reads : (call : Call) → CallFits call → read_line (framed (call_bytes call)) ≡ Good call
 unfolding read_line call_kind
-reads call f = ap line_for (calls-faithful.reads-back call f)
+reads call f = ap line_for (calls-faithful.reads_back call f)
 
 at_front : (call : Call) (rest : List ℕ) → CallFits call → call_at (framed (call_bytes call) ++ (newline ∷ rest)) 0 ≡ LineAt.Good call (line_size (call_bytes call))
 unfolding call_at
