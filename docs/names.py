@@ -15,6 +15,7 @@ import os
 import re
 import sys
 
+sys.dont_write_bytecode = True
 from check import ROOT, expanded, files, text
 
 # What is none of this repository's: the Rust's, the system's, Rattle's, words of commands and answers, and patterns.
@@ -70,7 +71,7 @@ def names_and_crates():
 
 def is_file(path):
     places = ("", "crates", "crates/*", "crates/*/specs", "crates/*/proofs", "docs", "oracle", "rust", "rust/*")
-    built = path.startswith("target/") or "/out/" in path
+    built = re.match(r"target/oracle/|crates/\w+/out/", path)
     return built or all(any(glob.glob(os.path.join(ROOT, place, p)) for place in places) for p in expanded(path))
 
 
