@@ -1,6 +1,7 @@
 //! Cuts the original Rust out of its files into OUT_DIR, and links our static library if it is there.
 //!
-//! REVC_SRC names the folder that holds revc's `src/`; PICMAN_FFI_DIR the one that holds `libpicman_ffi.a`.
+//! REVC_SRC names the folder that holds revc's `src/`; PICMAN_FFI_DIR the one that holds `libpicman_ffi.a`, by default where
+//! `rt lib` in crates/picman_ffi writes it.
 
 use std::path::{Path, PathBuf};
 use std::{env, fs};
@@ -63,7 +64,7 @@ fn main() {
     let api = without_foreign_derives(&cut_all(&revc, "api/mod.rs", API));
     fs::write(out.join("api.rs"), api).unwrap();
 
-    link_ours(&folder("PICMAN_FFI_DIR", root.join("target/staticlib")));
+    link_ours(&folder("PICMAN_FFI_DIR", root.join("crates/picman_ffi/out")));
 }
 
 fn folder(variable: &str, default: PathBuf) -> PathBuf {
