@@ -2,7 +2,7 @@
 """Whether the documents lead somewhere: run it from anywhere, no argument; it says what is wrong and ends with 1, or ends with 0.
 
 - Every claim (a declaration `abbrev pub Name : Type 0` in a file specs/Claims.antt, or one that docs/CLAIMS.md names) has a proof:
-  a declaration `name-in-parts : Name` in a folder proofs/ or in a file of laws in specs/, the parts joined by dashes or by underscores.
+  a declaration `name-in-parts : Name` in a folder proofs/ or in a file of laws in specs/.
 - Every file, function and must-fail edit that docs/CLAIMS.md names is there.
 - Every must-fail edit finds each text that it replaces, exactly once: what the gate says of it only after the proofs.
 - The README's map has the crates of crates.txt, each once.
@@ -37,7 +37,7 @@ def claims_and_proofs():
             stated.setdefault(name, []).append(path)
     for path in files("crates/*/proofs/**/*.antt") + files("crates/*/specs/**/*.antt"):
         for name, claim in re.findall(r"(?m)^(?:unfoldable |abbrev )?(?:pub )?([\w-]+) : ([A-Z]\w*)$", text(path)):
-            proved.add((name.replace("_", "-"), claim))
+            proved.add((name, claim))
     return stated, proved
 
 
