@@ -1,7 +1,7 @@
 // The copy of one entry, given by its fields, into the lists of the running machine. It has to do with the lists alone.
 #![tactic(auto)]
 
-ghost use Rattle.std.specs.Prelude.{◌≡◌, ◌+◌, ◌*◌, ◌<◌, length};
+ghost use Rattle.std.specs.Prelude.{◌≡◌, ◌+◌, ◌*◌, length};
 ghost use Rattle.def.specs.State.{list_places};
 ghost use Rattle.keys.specs.Keys.{lists_in};
 ghost use Rattle.refp.specs.Copy.{copy};

@@ -2,7 +2,7 @@
 // the keys as they were; they are made only where the put marks.
 #![tactic(auto)]
 
-ghost use Rattle.std.specs.Prelude.{◌≡◌, true, List, ℕ, ◌<◌, length};
+ghost use Rattle.std.specs.Prelude.{◌≡◌, true, List, ℕ, length};
 ghost use Rattle.def.specs.State.{slots};
 ghost use Rattle.keys.specs.Keys.{rows_length, lists_in, stands, Sized, Comes};
 ghost use Rattle.whole.specs.Whole.{whole};

@@ -5,7 +5,6 @@
 
 ghost use Rattle.std.specs.Prelude.{◌≡◌, length};
 ghost use Rattle.line.specs.Calls.{call_from};
-ghost use Rattle.reasons.specs.Reasons.{why};
 ghost use Rattle.questions.specs.Asked.{question_of, question_in, reason_number, place_told, reason_length, reason_bytes, why_left, shown_why};
 
 use def::{DONE, RefpCall, refusal_number};

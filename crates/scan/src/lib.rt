@@ -2,7 +2,7 @@
 // The public function's `requires` are met by who lends the table and has come to a place of the buffer.
 #![tactic(auto)]
 
-ghost use Rattle.std.specs.Prelude.{◌≡◌, ◌+◌, ◌≤◌, ◌<◌, length};
+ghost use Rattle.std.specs.Prelude.{◌≡◌, ◌≤◌, length};
 ghost use Rattle.hex_digits.specs.Hex.{digit_tables};
 ghost use Rattle.line.specs.Lines.{call_at};
 ghost use Rattle.pairs.specs.Pairs.{Opened};

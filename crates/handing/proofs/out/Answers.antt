@@ -1,5 +1,4 @@
 -- `handing::out` meets its contract: case by case, by what its parts ensure. Assumes nothing.
-use mathlib.Core.Bool.{true, false}
 use mathlib.Core.Path.{sym, ◌∙◌}
 use Rattle.handing.proofs.DuePlace.{place-due, place-waits, place_none}
 use Rattle.picman.proofs.OutOnKeys.{due-fits, on-due, on-not-yet, on-no-more}

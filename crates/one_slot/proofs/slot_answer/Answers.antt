@@ -1,6 +1,5 @@
 -- `one_slot::slot_answer` meets its contract: 14, not marked, or the reason. Assumes nothing.
 use mathlib.Core.Path.{sym, ◌∙◌}
-use mathlib.Core.Bool.{true}
 use mathlib.Core.List.{[]}
 use Rattle.one_slot.proofs.SlotLaws.{held_below, told-not-marked, told-reason}
 use Rattle.one_slot.proofs.slot_answer.Goals as goal

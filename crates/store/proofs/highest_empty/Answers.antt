@@ -1,7 +1,7 @@
 -- `store::highest_empty` meets its contract: no slot from here on is empty. Assumes nothing.
 use mathlib.Core.Path.{◌≡◌, sym, ap, ◌∙◌}
 use native.Mathlib.Omega.{arith}
-use mathlib.Core.Bool.{false, not}
+use mathlib.Core.Bool.{not}
 use lib.ListN.{length, drop_of_length-le}
 use Rattle.seq.specs.Lists.{any_of}
 use Rattle.seq.proofs.Walks.{highest-found, none_from, highest-none}
