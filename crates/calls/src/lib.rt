@@ -1,5 +1,5 @@
-// The calls on the running machine, each with its answer as a reply: keys and rows are lent and changed in place, the scalars go
-// by value. Each works on a state known to be whole.
+// The calls on the running machine, each with its answer as a reply: keys, rows and scalars are lent and changed in place. Each works on a
+// state known to be whole, and one that is turned down changes nothing.
 #![tactic(auto)]
 
 ghost use Rattle.std.specs.Prelude.{◌≡◌};
@@ -7,117 +7,86 @@ ghost use Rattle.picman.specs.Init.{init};
 ghost use Rattle.picman.specs.Get.{get};
 ghost use Rattle.picman.specs.Put.{put};
 ghost use Rattle.picman.specs.Out.{out};
+ghost use Rattle.poc.specs.PictureNumber.{derive};
 ghost use Rattle.refp.specs.Lists.{lists};
-ghost use Rattle.machine.specs.Step.{on_state, on_lists};
-ghost use Rattle.machine.specs.Running.{machine_in, Runs, Makes, made_of, derived_of};
+ghost use Rattle.machine.specs.Step.{on_state, on_lists, derived_reply};
+ghost use Rattle.machine.specs.Running.{machine_in, Runs, Makes};
 
-use def::{EvcPoc, PutCall, RefpCall};
+use def::{PutCall, RefpCall};
 use derivation::poc_derivation;
-use keys::{Called, PLACES, SLOTS};
-use line::{GET_EMPTY_PIC, INIT, OUT_PIC, PUT_PIC, REFP_INIT, reply_of};
+use keys::{PLACES, SLOTS};
+use line::{GET_EMPTY_PIC, INIT, OUT_PIC, PUT_PIC, REFP_INIT, Reply, reply_of};
+use machine::Scalars;
 use machine::fields::derived_reply;
-use machine::{Made, Scalars};
-
-// What a call on state and lists comes to; the record stays.
-pub fn made(call: u8, called: Called, poc: EvcPoc) -> Made
-    ensures { result ≡ made_of call called poc }
-{
-    let answer = called.answer;
-    let rest = called.rest;
-    let scalars = Scalars { rest, poc };
-    Made {
-        reply: reply_of(call, answer),
-        scalars,
-    }
-}
 
 pub fn init_call(
     keys: &[u64],
     rows: &[u32],
-    s: Scalars,
+    s: &mut Scalars,
     max_pb_size: u8,
     max_num_ref_pics: u8,
-) -> Made
-    requires { Runs keys.now rows.now s }
-    ensures { let keys_in = keys.now in
-        let rows_in = rows.now in
-        let m = machine_in keys_in rows_in s in
-        Makes result s keys_in rows_in keys_in rows_in (on_state 1 m (init m.pm max_pb_size max_num_ref_pics)) }
+) -> Reply
+    requires { Runs keys.now rows.now s.old }
+    ensures { let m = machine_in keys.now rows.now s.old in
+        Makes result s.new s.old keys.now rows.now keys.now rows.now
+        (on_state 1 m (init m.pm max_pb_size max_num_ref_pics)) }
 {
-    let rest = s.rest;
-    let poc = s.poc;
-    made(
-        INIT,
-        picman::init::init(rest, max_pb_size, max_num_ref_pics),
-        poc,
-    )
+    let called = picman::init::init(s.rest, max_pb_size, max_num_ref_pics);
+    s.rest = called.rest;
+    reply_of(INIT, called.answer)
 }
 
-pub fn get_call(keys: &mut [u64], rows: &mut [u32], s: Scalars) -> Made
-    requires { Runs keys.old rows.old s }
-    ensures { let keys_in = keys.old in
-        let rows_in = rows.old in
-        let m = machine_in keys_in rows_in s in
-        Makes result s keys_in rows_in keys.new rows.new (on_state 2 m (get m.pm)) }
+pub fn get_call(keys: &mut [u64], rows: &mut [u32], s: &mut Scalars) -> Reply
+    requires { Runs keys.old rows.old s.old }
+    ensures { let m = machine_in keys.old rows.old s.old in
+        Makes result s.new s.old keys.old rows.old keys.new rows.new (on_state 2 m (get m.pm)) }
 {
-    let rest = s.rest;
-    let poc = s.poc;
-    made(GET_EMPTY_PIC, leasing::get(keys, rows, rest), poc)
+    let called = leasing::get(keys, rows, s.rest);
+    s.rest = called.rest;
+    reply_of(GET_EMPTY_PIC, called.answer)
 }
 
-pub fn put_call(keys: &mut [u64], rows: &mut [u32], s: Scalars, call: PutCall) -> Made
-    requires { Runs keys.old rows.old s }
-    ensures { let keys_in = keys.old in
-        let rows_in = rows.old in
-        let m = machine_in keys_in rows_in s in
-        Makes result s keys_in rows_in keys.new rows.new (on_state 3 m (put m.pm m.refp call)) }
+pub fn put_call(keys: &mut [u64], rows: &mut [u32], s: &mut Scalars, call: PutCall) -> Reply
+    requires { Runs keys.old rows.old s.old }
+    ensures { let m = machine_in keys.old rows.old s.old in
+        Makes result s.new s.old keys.old rows.old keys.new rows.new
+        (on_state 3 m (put m.pm m.refp call)) }
 {
-    let rest = s.rest;
-    let poc = s.poc;
-    made(PUT_PIC, putting::put(keys, rows, rest, call), poc)
+    let called = putting::put(keys, rows, s.rest, call);
+    s.rest = called.rest;
+    reply_of(PUT_PIC, called.answer)
 }
 
-pub fn out_call(keys: &mut [u64], rows: &[u32], s: Scalars) -> Made
-    requires { Runs keys.old rows.now s }
-    ensures { let keys_in = keys.old in
-        let rows_in = rows.now in
-        let m = machine_in keys_in rows_in s in
-        Makes result s keys_in rows_in keys.new rows_in (on_state 4 m (out m.pm)) }
+pub fn out_call(keys: &mut [u64], rows: &[u32], s: &mut Scalars) -> Reply
+    requires { Runs keys.old rows.now s.old }
+    ensures { let m = machine_in keys.old rows.now s.old in
+        Makes result s.new s.old keys.old rows.now keys.new rows.now (on_state 4 m (out m.pm)) }
 {
-    let rest = s.rest;
-    let poc = s.poc;
-    made(OUT_PIC, handing::out(keys, rest), poc)
+    let called = handing::out(keys, s.rest);
+    s.rest = called.rest;
+    reply_of(OUT_PIC, called.answer)
 }
 
-pub fn refp_call(keys: &[u64], rows: &mut [u32], s: Scalars, call: RefpCall) -> Made
-    requires { Runs keys.now rows.old s }
-    ensures { let keys_in = keys.now in
-        let rows_in = rows.old in
-        let m = machine_in keys_in rows_in s in
-        Makes result s keys_in rows_in keys_in rows.new (on_lists 5 m (lists m.pm m.refp call)) }
+pub fn refp_call(keys: &[u64], rows: &mut [u32], s: &mut Scalars, call: RefpCall) -> Reply
+    requires { Runs keys.now rows.old s.old }
+    ensures { let m = machine_in keys.now rows.old s.old in
+        Makes result s.new s.old keys.now rows.old keys.now rows.new
+        (on_lists 5 m (lists m.pm m.refp call)) }
 {
-    let rest = s.rest;
-    let poc = s.poc;
     let mut order = [0u64; SLOTS];
     let mut list = [0u64; PLACES];
-    made(
-        REFP_INIT,
-        filling::refp_init(keys, rows, &mut order, &mut list, rest, call),
-        poc,
-    )
+    let called = filling::refp_init(keys, rows, &mut order, &mut list, s.rest, call);
+    s.rest = called.rest;
+    reply_of(REFP_INIT, called.answer)
 }
 
-pub fn poc_call(s: Scalars, log2_sub_gop_length: u8, tid: u8) -> Made
-    ensures { result ≡ derived_of s log2_sub_gop_length tid }
+// The state stays.
+pub fn poc_call(s: &mut Scalars, log2_sub_gop_length: u8, tid: u8) -> Reply
+    ensures reply { result ≡ derived_reply 6 (derive log2_sub_gop_length tid s.old.poc).answer }
+    ensures scalars { let d = derive log2_sub_gop_length tid s.old.poc in
+        s.new ≡ record { rest = s.old.rest; poc = d.poc } }
 {
-    let before = s.poc;
-    let rest = s.rest;
-    let d = poc_derivation(log2_sub_gop_length, tid, before);
-    let poc = d.poc;
-    let answer = d.answer;
-    let scalars = Scalars { rest, poc };
-    Made {
-        reply: derived_reply(answer),
-        scalars,
-    }
+    let derived = poc_derivation(log2_sub_gop_length, tid, s.poc);
+    s.poc = derived.poc;
+    derived_reply(derived.answer)
 }

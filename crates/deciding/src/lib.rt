@@ -8,9 +8,7 @@ ghost use Rattle.poc.specs.PictureNumber.{max_poc};
 ghost use Rattle.gop.specs.Plan.{is_key, is_inter, bad_plan, at_count, decided_plan, plan};
 
 use between::{in_hierarchy, without_hierarchy};
-use def::{
-    DocOffset, EvcPoc, FRM_DEPTH_0, FRM_DEPTH_1, MAX_POC, PocVal, Refusal, SliceType, slice_type_of,
-};
+use def::{DocOffset, EvcPoc, FRM_DEPTH_0, FRM_DEPTH_1, MAX_POC, PocVal, Refusal, SliceType};
 use gop::{Planning, planned, refused_plan};
 use tbl::is_gop_size;
 
@@ -98,7 +96,7 @@ pub fn decide_normal_gop(
     if !is_gop_size(gop_size) {
         return refused_plan(Refusal::BadLength, poc);
     }
-    let inter = slice_type_of(inter_slice_type);
+    let inter = SliceType::from(inter_slice_type);
     let key = is_key(pic_imcnt, i_period);
     if is_bad_plan(pic_imcnt, gop_size, key, inter, hierarchy) {
         return refused_plan(Refusal::BadPlan, poc);

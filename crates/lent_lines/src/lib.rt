@@ -7,7 +7,7 @@ ghost use Rattle.lent_lines.specs.LentLines.{lent_out, no_reply, place_record, r
 ghost use Rattle.lent_lines.specs.LentLines.{written_status, written_length, wrote_out};
 
 use buffer::paste;
-use def::{DONE, Refusal, refusal_number};
+use def::{DONE, Refusal};
 use line::{NO_MORE, Reply};
 use reader::{Read, after_line, answer_at};
 use writer::{Written, write_fields};
@@ -65,7 +65,7 @@ fn read_status(read: Read) -> u8
 {
     match read {
         Read::Answer(_) => DONE,
-        Read::BadLine(_) => refusal_number(Refusal::BadLine),
+        Read::BadLine(_) => u8::from(Refusal::BadLine),
         Read::NoMore => NO_MORE,
     }
 }
@@ -76,7 +76,7 @@ pub fn read_record(lines: &[u8], at: u64, out: &mut [u8]) -> u8
     ensures { lent_out result out.new ≡ read_out lines.now at out.old }
 {
     if out.len() != RECORD_LENGTH {
-        return refusal_number(Refusal::BadLine);
+        return u8::from(Refusal::BadLine);
     }
     let place = at as usize;
     let next = after_line(lines, place);
@@ -91,7 +91,7 @@ fn written_status(written: Written) -> u8
 {
     match written {
         Written::Line(_) => DONE,
-        Written::Refused(why) => refusal_number(why),
+        Written::Refused(why) => u8::from(why),
     }
 }
 

@@ -135,6 +135,6 @@ pub fn reply_of(call: u8, answer: Answer) -> Reply
             NO_BUFFER,
             forward as u32 * 256 + backward as u32,
         ),
-        Answer::Refused(why) => without_picture(call, def::refusal_number(why)),
+        Answer::Refused(why) => without_picture(call, u8::from(why)),
     }
 }

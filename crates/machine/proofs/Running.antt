@@ -12,7 +12,7 @@ use Rattle.seq.specs.Lists.{entries_from, entries}
 use Rattle.def.specs.declared.{EvcPm.EvcPm, EvcRefP.EvcRefP, PutCall.PutCall, RefpCall.RefpCall, PmResult.PmResult, RefpResult.RefpResult, Answer.Answer}
 use Rattle.def.specs.State.{slots}
 use Rattle.keys.specs.Keys.{row_length, row_count, head_row, number_row, entry_row, rows_length, row_at, slot_at, entry_at, stands, lists_in, Sized}
-use Rattle.keys.specs.declared.{Called.Called}
+use Rattle.keys.specs.declared.{Called.Called, Rest.Rest}
 use Rattle.poc.specs.PictureNumber.{derive}
 use Rattle.poc.proofs.Why.{derive-refused}
 use Rattle.picman.specs.OnKeys.{Calls}
@@ -20,14 +20,14 @@ use Rattle.picman.specs.{Init.init, Init.init_whole, Get.get, Get.get_whole, Out
 use Rattle.refp.specs.Lists.{lists_whole, lists}
 use Rattle.refp.specs.Running.{ListsCame}
 use Rattle.whole.specs.Whole.{whole}
-use Rattle.line.specs.declared.{Call.Call, Line.Line}
+use Rattle.line.specs.declared.{Call.Call, Line.Line, Reply.Reply}
 use Rattle.line.specs.declared.Call.TheVariants.{Init, GetEmptyPic, PutPic, OutPic, RefpInit, PocDerivation}
 use Rattle.def.specs.declared.Answer.TheVariants.{Refused}
 use Rattle.def.specs.declared.Refusal.TheVariants.{StateNotWhole}
 use Rattle.line.specs.Answers.{reply_of}
-use Rattle.machine.specs.declared.{Machine.Machine, Scalars.Scalars, Made.Made}
-use Rattle.machine.specs.Step.{new_ref_p, new_lists, new_machine, put_call_of, refp_call_of, stepped, on_state, on_lists, on_record, step, step_line}
-use Rattle.machine.specs.Running.{machine_in, new_scalars, reads_state, call_byte, is_ready, rows_kept, Runs, CallRoom, Makes, made_of, derived_of}
+use Rattle.machine.specs.declared.{Machine.Machine, Scalars.Scalars}
+use Rattle.machine.specs.Step.{new_ref_p, new_lists, new_machine, derived_reply, put_call_of, refp_call_of, stepped, on_state, on_lists, on_record, step, step_line}
+use Rattle.machine.specs.Running.{machine_in, new_scalars, reads_state, call_byte, is_ready, rows_kept, Runs, CallRoom, Makes}
 use Rattle.machine.specs.Claims.{Sound}
 use Rattle.machine.proofs.EveryCall.{refused-answer, refused-number, line-sound}
 
@@ -96,17 +96,21 @@ reply-call call Answer.NoMore = refl
 reply-call call (Answer.Counts forward backward) = refl
 reply-call call (Answer.Refused why) = refl
 
+-- The scalars with another rest; the record stays.
+abbrev pub with_rest : Scalars → Rest → Scalars
+with_rest s rest = record { rest = rest; poc = s.poc }
+
 module _ (keys rows : List ℕ) (s : Scalars) (call : ℕ) where
   abbrev m : Machine
   m = machine_in keys rows s
 
-  rest_stays : (r : Called) → r.rest ≡ s.rest → record { rest = r.rest; poc = s.poc } ≡ s
+  rest_stays : (r : Called) → r.rest ≡ s.rest → with_rest s r.rest ≡ s
   rest_stays r e = rw e refl
 
   -- A call on the state.
-  pub state-makes : {made : Made} {r : Called} {keys' rows' : List ℕ} {x w : PmResult}
-      → made ≡ made_of call r s.poc → x ≡ w → Calls r keys rows s.rest keys' rows' w
-      → Makes made s keys rows keys' rows' (on_state call m x)
+  pub state-makes : {reply : Reply} {r : Called} {keys' rows' : List ℕ} {x w : PmResult}
+      → reply ≡ reply_of call r.answer → x ≡ w → Calls r keys rows s.rest keys' rows' w
+      → Makes reply (with_rest s r.rest) s keys rows keys' rows' (on_state call m x)
   state-makes {r = r} {keys'} {rows'} {x} e f calls =
       let c = calls.comes in
       let pm-is : stands keys' rows' r.rest ≡ x.pm = c.stands_for ∙ ap (λ (y : PmResult). y.pm) (sym f) in
@@ -121,9 +125,9 @@ module _ (keys rows : List ℕ) (s : Scalars) (call : ℕ) where
       })
 
   -- A call on state and lists.
-  pub lists-makes : {made : Made} {r : Called} {rows' : List ℕ} {c : RefpCall} {x : RefpResult}
-      → eqb call 5 ≡ true → made ≡ made_of call r s.poc → x ≡ lists_whole (stands keys rows s.rest) (lists_in rows) c → ListsCame r keys rows rows' s.rest c
-      → Makes made s keys rows keys rows' (on_lists call m x)
+  pub lists-makes : {reply : Reply} {r : Called} {rows' : List ℕ} {c : RefpCall} {x : RefpResult}
+      → eqb call 5 ≡ true → reply ≡ reply_of call r.answer → x ≡ lists_whole (stands keys rows s.rest) (lists_in rows) c → ListsCame r keys rows rows' s.rest c
+      → Makes reply (with_rest s r.rest) s keys rows keys rows' (on_lists call m x)
   lists-makes {r = r} {rows'} {x = x} five e f came =
       let c = came.comes in
       let pm-is : stands keys rows' r.rest ≡ x.pm = c.lists_stand_for ∙ ap (λ (y : RefpResult). y.pm) (sym f) in
@@ -141,9 +145,10 @@ module _ (keys rows : List ℕ) (s : Scalars) (call : ℕ) where
       })
 
 -- A derivation.
-pub record-makes : (keys rows : List ℕ) (s : Scalars) (L t : ℕ) → Sized keys rows → {made : Made} → made ≡ derived_of s L t
-    → Makes made s keys rows keys rows (on_record 6 (machine_in keys rows s) (derive L t s.poc))
-record-makes keys rows s L t sized e = rw e (record {
+pub record-makes : (keys rows : List ℕ) (s : Scalars) (L t : ℕ) → Sized keys rows
+    → {reply : Reply} → reply ≡ derived_reply 6 (derive L t s.poc).answer → {after : Scalars} → after ≡ record { rest = s.rest; poc = (derive L t s.poc).poc }
+    → Makes reply after s keys rows keys rows (on_record 6 (machine_in keys rows s) (derive L t s.poc))
+record-makes keys rows s L t sized e f = rw (e, f) (record {
   replies = refl;
   machine_is = refl;
   other_rows = λ b kept no. refl;
@@ -153,8 +158,8 @@ record-makes keys rows s L t sized e = rw e (record {
 })
 
 -- A call on a machine that runs leaves one that runs.
-pub runs_on : {keys rows keys' rows' : List ℕ} {s : Scalars} {r : Made} (l : Line) → Runs keys rows s
-    → Makes r s keys rows keys' rows' (step_line (machine_in keys rows s) l) → Runs keys' rows' r.scalars
+pub runs_on : {keys rows keys' rows' : List ℕ} {after s : Scalars} {r : Reply} (l : Line) → Runs keys rows s
+    → Makes r after s keys rows keys' rows' (step_line (machine_in keys rows s) l) → Runs keys' rows' after
 runs_on {keys} {rows} {s = s} l runs c = record {
   sized = c.still_sized;
   whole_state = ap (λ (m : Machine). whole m.pm) c.machine_is ∙ (line-sound (machine_in keys rows s) l (sound-in runs)).whole_state;
@@ -165,9 +170,9 @@ runs_on {keys} {rows} {s = s} l runs c = record {
 pub room-runs : {keys rows : List ℕ} {s : Scalars} {call k : Call} → CallRoom keys rows s call → call ≡ k → reads_state k ≡ true → Runs keys rows s
 room-runs room e r = record { sized = room.sized; whole_state = room.ready (ap reads_state e ∙ r) }
 
-pub by_call : {r : Made} {s : Scalars} {keys rows keys' rows' : List ℕ} {call k : Call} → call ≡ k
-    → Makes r s keys rows keys' rows' (step (machine_in keys rows s) k) → Makes r s keys rows keys' rows' (step (machine_in keys rows s) call)
-by_call {r} {s} {keys} {rows} {keys'} {rows'} e c = subst (λ (x : Call). Makes r s keys rows keys' rows' (step (machine_in keys rows s) x)) (sym e) c
+pub by_call : {r : Reply} {after s : Scalars} {keys rows keys' rows' : List ℕ} {call k : Call} → call ≡ k
+    → Makes r after s keys rows keys' rows' (step (machine_in keys rows s) k) → Makes r after s keys rows keys' rows' (step (machine_in keys rows s) call)
+by_call {r} {after} {s} {keys} {rows} {keys'} {rows'} e c = subst (λ (x : Call). Makes r after s keys rows keys' rows' (step (machine_in keys rows s) x)) (sym e) c
 
 -- a call that is not ready is refused with 7, and one that is may be made
 pub ready-room : {keys rows : List ℕ} {s : Scalars} (call : Call) → Sized keys rows → is_ready keys rows s call ≡ true → CallRoom keys rows s call
@@ -191,15 +196,12 @@ not-whole-step m (RefpInit slice poc layer intra limit) r w = not-whole-lists (r
 not-whole-step m (PocDerivation L t) r w = absurd (Bool.false≢true r)
 
 module _ {keys rows : List ℕ} (s : Scalars) (sized : Sized keys rows) where
-  abbrev refused_made : Call → Made
-  refused_made call = made_of (call_byte call) (record { answer = Refused StateNotWhole; rest = s.rest }) s.poc
-
-  pub refused-makes : (call : Call) → is_ready keys rows s call ≡ false → (made : Made) → made ≡ refused_made call
-      → Makes made s keys rows keys rows (step (machine_in keys rows s) call)
-  refused-makes call n made e = both (reads_state call) refl (whole (stands keys rows s.rest)) refl n
+  pub refused-makes : (call : Call) → is_ready keys rows s call ≡ false → (reply : Reply) → reply ≡ reply_of (call_byte call) (Refused StateNotWhole)
+      → Makes reply s s keys rows keys rows (step (machine_in keys rows s) call)
+  refused-makes call n reply e = both (reads_state call) refl (whole (stands keys rows s.rest)) refl n
     where
       both : (b : Bool) → reads_state call ≡ b → (w : Bool) → whole (stands keys rows s.rest) ≡ w → (not b || w) ≡ false
-          → Makes made s keys rows keys rows (step (machine_in keys rows s) call)
+          → Makes reply s s keys rows keys rows (step (machine_in keys rows s) call)
       both false r w v x = absurd (Bool.true≢false x)
       both true r true v x = absurd (Bool.true≢false x)
       both true r false v x = rw (e, not-whole-step (machine_in keys rows s) call r v) (record {

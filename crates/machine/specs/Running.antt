@@ -1,18 +1,15 @@
 -- The running machine: which machine the lent arrays and the scalars stand for, and what a call on them comes to.
 -- Assumes nothing.
 use Rattle.std.specs.Prelude.{◌≡◌, Bool, true, false, cond, not, ◌||◌, List, ℕ, ◌<◌, eqb, pos}
-use Rattle.def.specs.declared.EvcPoc.{EvcPoc}
 use Rattle.keys.specs.Keys.{row_at, row_count, stands, lists_in, Sized}
 use Rattle.def.specs.State.{slots}
-use Rattle.keys.specs.declared.Called.{Called}
-use Rattle.poc.specs.PictureNumber.{derive, record_of}
+use Rattle.poc.specs.PictureNumber.{record_of}
 use Rattle.line.specs.declared.{Call.Call, Reply.Reply}
 use Rattle.line.specs.declared.Call.TheVariants.{Init, GetEmptyPic, PutPic, OutPic, RefpInit, PocDerivation}
-use Rattle.line.specs.Answers.{reply_of}
-use Rattle.machine.specs.Step.{derived_reply, step}
+use Rattle.machine.specs.Step.{step}
 use Rattle.machine.specs.Claims.{TurnedDown}
 use Rattle.whole.specs.Whole.{whole}
-use Rattle.machine.specs.declared.{Machine.Machine, Stepped.Stepped, Scalars.Scalars, Made.Made}
+use Rattle.machine.specs.declared.{Machine.Machine, Stepped.Stepped, Scalars.Scalars}
 
 abbrev pub machine_in : List ℕ → List ℕ → Scalars → Machine
 machine_in keys rows s = record { pm = stands keys rows s.rest; refp = lists_in rows; poc = s.poc }
@@ -37,10 +34,10 @@ pub record CallRoom (keys rows : List ℕ) (s : Scalars) (call : Call) : Type 0 
   pub ready : reads_state call ≡ true → whole (stands keys rows s.rest) ≡ true
 
 -- Arrays and scalars are as they were.
-pub record MachineUntouched (r : Made) (s : Scalars) (keys rows keys' rows' : List ℕ) : Type 0 where
+pub record MachineUntouched (after s : Scalars) (keys rows keys' rows' : List ℕ) : Type 0 where
   pub same_keys : keys' ≡ keys
   pub same_rows : rows' ≡ rows
-  pub same_scalars : r.scalars ≡ s
+  pub same_scalars : after ≡ s
 
 -- A call finds what it asks of the state.
 abbrev pub is_ready : List ℕ → List ℕ → Scalars → Call → Bool
@@ -55,26 +52,16 @@ abbrev pub OtherRowsStay : Reply → List ℕ → List ℕ → Type 0
 OtherRowsStay r rows rows' = (b : ℕ) → b < rows_kept r.call → (b ≡ r.buf → ⊥) → row_at rows' b ≡ row_at rows b
 
 -- The reply and the machine after the call are the definition's, the other rows stay, and a call that is turned down touches nothing.
-pub record Makes (r : Made) (s : Scalars) (keys rows keys' rows' : List ℕ) (wanted : Stepped) : Type 0 where
-  pub replies : r.reply ≡ wanted.reply
-  pub machine_is : machine_in keys' rows' r.scalars ≡ wanted.machine
-  pub other_rows : OtherRowsStay r.reply rows rows'
+pub record Makes (r : Reply) (after s : Scalars) (keys rows keys' rows' : List ℕ) (wanted : Stepped) : Type 0 where
+  pub replies : r ≡ wanted.reply
+  pub machine_is : machine_in keys' rows' after ≡ wanted.machine
+  pub other_rows : OtherRowsStay r rows rows'
   pub still_sized : Sized keys' rows'
-  pub refused_leaves : TurnedDown r.reply → MachineUntouched r s keys rows keys' rows'
+  pub refused_leaves : TurnedDown r → MachineUntouched after s keys rows keys' rows'
 
 -- What a call on the machine in these arrays makes of it.
-abbrev pub MakesCall : Made → Scalars → List ℕ → List ℕ → List ℕ → List ℕ → Call → Type 0
-MakesCall r s keys rows keys' rows' call = Makes r s keys rows keys' rows' (step (machine_in keys rows s) call)
-
--- A call's answer as a reply; state and lists are the call's, the record stays.
-abbrev pub made_of : ℕ → Called → EvcPoc → Made
-made_of call r poc = record { reply = reply_of call r.answer; scalars = record { rest = r.rest; poc = poc } }
-
--- What a derivation comes to; the state stays.
-abbrev pub derived_of : Scalars → ℕ → ℕ → Made
-derived_of s L t =
-    let d = derive L t s.poc in
-    record { reply = derived_reply 6 d.answer; scalars = record { rest = s.rest; poc = d.poc } }
+abbrev pub MakesCall : Reply → Scalars → Scalars → List ℕ → List ℕ → List ℕ → List ℕ → Call → Type 0
+MakesCall r after s keys rows keys' rows' call = Makes r after s keys rows keys' rows' (step (machine_in keys rows s) call)
 
 -- The scalars of the new machine.
 abbrev pub new_scalars : Scalars

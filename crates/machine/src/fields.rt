@@ -2,8 +2,7 @@
 ghost use Rattle.std.specs.Prelude.{◌≡◌, ◌<◌};
 ghost use Rattle.machine.specs.Step.{flag, put_call_of, refp_call_of, derived_reply};
 
-use def::word::{signed_of, twos_complement};
-use def::{PutCall, RefpCall, refusal_number, slice_type_of};
+use def::{PutCall, RefpCall, SliceType};
 use line::{NO_BUFFER, POC_DERIVATION, Reply};
 use poc::PocAnswer;
 
@@ -30,6 +29,7 @@ pub fn put_call_of(flags: u8, poc: u32, temporal_id: u8, ref_pic_gap_length: u32
     }
 }
 
+#[tactic(auto, using(def::proofs::WordLaws::cast_signed_is))]
 pub fn refp_call_of(
     slice_type: u8,
     poc: u32,
@@ -40,15 +40,16 @@ pub fn refp_call_of(
     ensures { result ≡ refp_call_of slice_type poc layer_id last_intra max_num_ref_pics }
 {
     RefpCall {
-        slice_type: slice_type_of(slice_type),
+        slice_type: SliceType::from(slice_type),
         poc,
         layer_id,
-        last_intra: signed_of(last_intra),
+        last_intra: last_intra.cast_signed(),
         max_num_ref_pics,
     }
 }
 
 // The fields of the answer to a derivation.
+#[tactic(auto, using(def::proofs::WordLaws::cast_unsigned_is))]
 pub fn derived_reply(answer: PocAnswer) -> Reply
     ensures { result ≡ derived_reply 6 answer }
 {
@@ -57,11 +58,11 @@ pub fn derived_reply(answer: PocAnswer) -> Reply
             call: POC_DERIVATION,
             status: 0,
             buf: NO_BUFFER,
-            value: twos_complement(number.0),
+            value: number.0.cast_unsigned(),
         },
         PocAnswer::Refused(why) => Reply {
             call: POC_DERIVATION,
-            status: refusal_number(why),
+            status: u8::from(why),
             buf: NO_BUFFER,
             value: 0,
         },

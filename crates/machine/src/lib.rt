@@ -30,10 +30,3 @@ pub struct Scalars {
     pub rest: Rest,
     pub poc: EvcPoc,
 }
-
-// The reply to a call on the running machine, with the scalars after it.
-#[derive(Clone, Copy)]
-pub struct Made {
-    pub reply: Reply,
-    pub scalars: Scalars,
-}

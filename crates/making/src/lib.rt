@@ -7,45 +7,21 @@ ghost use Rattle.std.specs.Prelude.{◌≡◌};
 ghost use Rattle.machine.specs.Running.{reads_state, CallRoom, MakesCall};
 
 use calls::{get_call, init_call, out_call, poc_call, put_call, refp_call};
-use line::Call;
+use line::{Call, Reply};
 use machine::fields::{put_call_of, refp_call_of};
-use machine::{Made, Scalars};
+use machine::Scalars;
 
-// Whether a call reads the state.
+// Every call but the derivation reads the state.
 pub fn reads_state(call: Call) -> bool
     ensures { result ≡ reads_state call }
 {
-    match call {
-        Call::Init {
-            max_pb_size,
-            max_num_ref_pics,
-        } => true,
-        Call::GetEmptyPic => true,
-        Call::PutPic {
-            flags,
-            poc,
-            temporal_id,
-            ref_pic_gap_length,
-        } => true,
-        Call::OutPic => true,
-        Call::RefpInit {
-            slice_type,
-            poc,
-            layer_id,
-            last_intra,
-            max_num_ref_pics,
-        } => true,
-        Call::PocDerivation {
-            log2_sub_gop_length,
-            tid,
-        } => false,
-    }
+    !matches!(call, Call::PocDerivation { .. })
 }
 
 // A call, where it reads the state, on one that is whole.
-pub fn make_call(keys: &mut [u64], rows: &mut [u32], s: Scalars, call: Call) -> Made
-    requires { CallRoom keys.old rows.old s call }
-    ensures { MakesCall result s keys.old rows.old keys.new rows.new call }
+pub fn make_call(keys: &mut [u64], rows: &mut [u32], s: &mut Scalars, call: Call) -> Reply
+    requires { CallRoom keys.old rows.old s.old call }
+    ensures { MakesCall result s.new s.old keys.old rows.old keys.new rows.new call }
 {
     match call {
         Call::Init {

@@ -7,7 +7,7 @@ ghost use Rattle.words.specs.Words.{poc_width, poc_bytes};
 ghost use Rattle.planning.specs.Planned.{plan_left, slice_byte, plan_width, plan_bytes, shown_plan, plan_called};
 
 use deciding::decide_normal_gop;
-use def::{DONE, EvcPoc, Refusal, SliceType, refusal_number};
+use def::{DONE, EvcPoc, Refusal, SliceType};
 use flags::flag_byte;
 use gop::{PicturePlan, PlanAnswer};
 use records::{read_poc_at, write_poc_at, write_signed};
@@ -56,7 +56,7 @@ fn show_plan(poc: &mut [u8], plan: &mut [u8], answer: PlanAnswer, after: EvcPoc)
 {
     match answer {
         PlanAnswer::Planned(picture) => write_both(poc, plan, picture, after),
-        PlanAnswer::Refused(why) => refusal_number(why),
+        PlanAnswer::Refused(why) => u8::from(why),
     }
 }
 
@@ -75,13 +75,13 @@ pub fn plan_picture(
         ≡ plan_called count gop_size interval inter hierarchy poc.old plan.old }
 {
     if poc.len() != RECORD_LENGTH {
-        return refusal_number(Refusal::BadLine);
+        return u8::from(Refusal::BadLine);
     }
     if plan.len() != PLAN_LENGTH {
-        return refusal_number(Refusal::BadLine);
+        return u8::from(Refusal::BadLine);
     }
     if 1 < hierarchy {
-        return refusal_number(Refusal::BadLine);
+        return u8::from(Refusal::BadLine);
     }
     let before = read_poc_at(poc, 0);
     let planning = decide_normal_gop(count, gop_size, interval, inter, hierarchy == 1, before);

@@ -5,7 +5,6 @@
 ghost use Rattle.std.specs.Prelude.{◌≡◌, ◌<◌, min, length};
 ghost use Rattle.registers.specs.Registers.{registers_length, highest_count, rest_of, poc_of, registers_of};
 
-use def::word::{signed_of, twos_complement};
 use def::{DocOffset, EvcPoc, PocVal};
 use keys::Rest;
 
@@ -44,17 +43,19 @@ pub fn rest_of(registers: &[u32]) -> Rest
     }
 }
 
+#[tactic(auto, using(def::proofs::WordLaws::cast_signed_is))]
 pub fn poc_of(registers: &[u32]) -> EvcPoc
     requires { length registers.now ≡ registers_length }
     ensures { result ≡ poc_of registers.now }
 {
     EvcPoc {
-        poc_val: PocVal(signed_of(registers[3])),
+        poc_val: PocVal(registers[3].cast_signed()),
         prev_poc_val: registers[4],
-        prev_doc_offset: DocOffset(signed_of(registers[5])),
+        prev_doc_offset: DocOffset(registers[5].cast_signed()),
     }
 }
 
+#[tactic(auto, using(def::proofs::WordLaws::cast_unsigned_is))]
 fn words(rest: Rest, poc: EvcPoc) -> [u32; REGISTERS]
     ensures { result ≡ registers_of rest poc }
 {
@@ -64,9 +65,9 @@ fn words(rest: Rest, poc: EvcPoc) -> [u32; REGISTERS]
         (rest.lease % 0x1_0000_0000) as u32,
         (rest.lease / 0x1_0000_0000) as u32,
         rest.poc_next_output,
-        twos_complement(number),
+        number.cast_unsigned(),
         poc.prev_poc_val,
-        twos_complement(offset),
+        offset.cast_unsigned(),
         rest.max_pb_size as u32,
         rest.max_num_ref_pics as u32,
         rest.cur_pb_size as u32,

@@ -7,12 +7,12 @@ use mathlib.Core.Bool.{Bool, true, false, cond}
 use mathlib.Core.List.{List, [], ◌++◌}
 use lib.Dec.{ltb}
 use lib.ListN.{length}
-use Rattle.line.specs.declared.{Call.Call, Line.Line, LineAt.LineAt}
+use Rattle.line.specs.declared.{Call.Call, Line.Line, LineAt.LineAt, Reply.Reply}
 use Rattle.line.specs.declared.Line.TheVariants.{Good, Bad}
 use Rattle.line.specs.Answers.{bad_line_reply}
 use Rattle.line.specs.Calls.{read_line}
 use Rattle.line.specs.Lines.{line_end, line_at, whole_line, call_at}
-use Rattle.machine.specs.declared.{Scalars.Scalars, Made.Made}
+use Rattle.machine.specs.declared.Scalars.{Scalars}
 use Rattle.machine.specs.Step.{step_line}
 use Rattle.machine.specs.Running.{machine_in, Runs, Makes}
 use Rattle.run.specs.Session.{NextIs}
@@ -65,12 +65,12 @@ next-found {piece} {at = at} {call} {next} e none =
       behind = λ t. f.behind;
     }
 
-pub by-line : {r : Made} {s : Scalars} {keys rows keys' rows' : List ℕ} {l k : Line} → l ≡ k
-    → Makes r s keys rows keys' rows' (step_line (machine_in keys rows s) k) → Makes r s keys rows keys' rows' (step_line (machine_in keys rows s) l)
-by-line {r} {s} {keys} {rows} {keys'} {rows'} e c = subst (λ (x : Line). Makes r s keys rows keys' rows' (step_line (machine_in keys rows s) x)) (sym e) c
+pub by-line : {r : Reply} {after s : Scalars} {keys rows keys' rows' : List ℕ} {l k : Line} → l ≡ k
+    → Makes r after s keys rows keys' rows' (step_line (machine_in keys rows s) k) → Makes r after s keys rows keys' rows' (step_line (machine_in keys rows s) l)
+by-line {r} {after} {s} {keys} {rows} {keys'} {rows'} e c = subst (λ (x : Line). Makes r after s keys rows keys' rows' (step_line (machine_in keys rows s) x)) (sym e) c
 
-pub bad-makes : {keys rows : List ℕ} {s : Scalars} (r : Made) → Runs keys rows s → r ≡ record { reply = bad_line_reply; scalars = s }
-    → Makes r s keys rows keys rows (step_line (machine_in keys rows s) Bad)
+pub bad-makes : {keys rows : List ℕ} {s : Scalars} (r : Reply) → Runs keys rows s → r ≡ bad_line_reply
+    → Makes r s s keys rows keys rows (step_line (machine_in keys rows s) Bad)
 unfolding step_line
 bad-makes r runs e = rw e (record {
   replies = refl;

@@ -7,17 +7,16 @@ pub mod partial;
 
 ghost use Rattle.std.specs.Prelude.{◌≡◌, ◌≤◌, length};
 ghost use Rattle.hex_digits.specs.Hex.{digit_tables};
-ghost use Rattle.line.specs.Answers.{bad_line_reply};
 ghost use Rattle.machine.specs.Step.{step_line};
 ghost use Rattle.machine.specs.Running.{machine_in, Runs, Makes};
 ghost use Rattle.run.specs.Partial.{held_line, Room};
 ghost use Rattle.run.specs.Session.{NextIs, NewSession, RunRoom, RanOver, EndRoom, EndedOver};
 
 use buffer::line_end;
-use line::{Line, LineAt, bad_line_reply};
+use line::{Line, LineAt, Reply, bad_line_reply};
 use lookup::TABLE_SIZE;
 use machine::fresh::new_scalars;
-use machine::{Made, Scalars};
+use machine::Scalars;
 use making::make_call;
 use partial::{Partial, extended, no_line, read_with};
 use scan::read_line_at;
@@ -85,25 +84,15 @@ fn next_line(tables: &[u16; TABLE_SIZE], partial: Partial, piece: &[u8], at: usi
     }
 }
 
-// A bad line changes nothing.
-fn bad_line(scalars: Scalars) -> Made
-    ensures { result ≡ record { reply = bad_line_reply; scalars = scalars } }
-{
-    let reply = bad_line_reply();
-    Made { reply, scalars }
-}
-
-// What a line does.
-fn answer_line(keys: &mut [u64], rows: &mut [u32], scalars: Scalars, line: Line) -> Made
-    requires { Runs keys.old rows.old scalars }
-    ensures { let keys_in = keys.old in
-        let rows_in = rows.old in
-        let m = machine_in keys_in rows_in scalars in
-        Makes result scalars keys_in rows_in keys.new rows.new (step_line m line) }
+// What a line does; a bad one changes nothing.
+fn answer_line(keys: &mut [u64], rows: &mut [u32], s: &mut Scalars, line: Line) -> Reply
+    requires { Runs keys.old rows.old s.old }
+    ensures { let m = machine_in keys.old rows.old s.old in
+        Makes result s.new s.old keys.old rows.old keys.new rows.new (step_line m line) }
 {
     match line {
-        Line::Good(call) => make_call(keys, rows, scalars, call),
-        Line::Bad => bad_line(scalars),
+        Line::Good(call) => make_call(keys, rows, s, call),
+        Line::Bad => bad_line_reply(),
     }
 }
 
@@ -128,10 +117,7 @@ pub fn run_piece(
     let mut found = next_line(tables, partial, piece, 0);
     while found.complete {
         let line = found.line;
-        let made = answer_line(keys, rows, scalars, line);
-        let after = made.scalars;
-        scalars = after;
-        let reply = made.reply;
+        let reply = answer_line(keys, rows, &mut scalars, line);
         len = write_reply(tables, out, len, reply);
         let none = no_line();
         partial = none;

@@ -10,7 +10,7 @@ use Rattle.keys.specs.declared.Rest.{Rest}
 use Rattle.line.specs.declared.{Call.Call, Line.Line, Reply.Reply}
 use Rattle.line.specs.Answers.{bad_line_reply}
 use Rattle.registers.specs.Registers.{rest_of, poc_of}
-use Rattle.machine.specs.declared.{Scalars.Scalars, Made.Made}
+use Rattle.machine.specs.declared.{Scalars.Scalars}
 use Rattle.machine.specs.Step.{step, step_line}
 use Rattle.machine.specs.Running.{machine_in, Makes, OtherRowsStay}
 use Rattle.machine.specs.Claims.{TurnedDown}
@@ -22,19 +22,19 @@ pub scalars-are : {rest : Rest} {poc : EvcPoc} (registers : List ℕ) → rest �
     → record { rest = rest; poc = poc } ≡ scalars_at registers
 scalars-are registers e f = rw (e, f)
 
-module _ {made : Made} {s : Scalars} (call : Call) {keys rows keys' rows' : List ℕ} (registers : List ℕ)
-    (read : s ≡ scalars_at registers) (makes : Makes made s keys rows keys' rows' (step (machine_in keys rows s) call)) where
+module _ {reply : Reply} {after s : Scalars} (call : Call) {keys rows keys' rows' : List ℕ} (registers : List ℕ)
+    (read : s ≡ scalars_at registers) (makes : Makes reply after s keys rows keys' rows' (step (machine_in keys rows s) call)) where
   abbrev before : Slices
   before = slices keys rows registers
 
-  replies : made.reply ≡ (step (machine_at before) call).reply
+  replies : reply ≡ (step (machine_at before) call).reply
   replies = rw read at makes.replies
 
-  machine_is : machine_in keys' rows' made.scalars ≡ (step (machine_at before) call).machine
+  machine_is : machine_in keys' rows' after ≡ (step (machine_at before) call).machine
   machine_is = rw read at makes.machine_is
 
   -- one that is turned down, with the registers as they were
-  pub call-refused : TurnedDown made.reply → CallLeaves made.reply call before (slices keys' rows' registers)
+  pub call-refused : TurnedDown reply → CallLeaves reply call before (slices keys' rows' registers)
   call-refused t =
       let u = makes.refused_leaves t in
       record {
@@ -45,10 +45,10 @@ module _ {made : Made} {s : Scalars} (call : Call) {keys rows keys' rows' : List
       }
 
   -- one that is made, with the scalars written
-  pub call-made : {registers' : List ℕ} → (TurnedDown made.reply → ⊥)
-      → rest_of registers' ≡ made.scalars.rest → poc_of registers' ≡ made.scalars.poc → CallLeaves made.reply call before (slices keys' rows' registers')
+  pub call-made : {registers' : List ℕ} → (TurnedDown reply → ⊥)
+      → rest_of registers' ≡ after.rest → poc_of registers' ≡ after.poc → CallLeaves reply call before (slices keys' rows' registers')
   call-made {registers'} n rest poc =
-      let written : scalars_at registers' ≡ made.scalars = sym (scalars-are registers' (sym rest) (sym poc)) in
+      let written : scalars_at registers' ≡ after = sym (scalars-are registers' (sym rest) (sym poc)) in
       record {
         replies = replies;
         machine_is = ap (machine_in keys' rows') written ∙ machine_is;

@@ -32,16 +32,12 @@ fn call_on(keys: &mut [u64], rows: &mut [u32], registers: &mut [u32], call: Call
         let after = slices keys.new rows.new registers.new in
         CallLeaves result call before after }
 {
-    let before = scalars_at(registers);
-    let made = checked_call(keys, rows, before, call);
-    let reply = made.reply;
+    let mut scalars = scalars_at(registers);
+    let reply = checked_call(keys, rows, &mut scalars, call);
     if is_refusal_number(reply.status) {
         return reply;
     }
-    let after = made.scalars;
-    let rest_after = after.rest;
-    let poc_after = after.poc;
-    registers::store(registers, rest_after, poc_after);
+    registers::store(registers, scalars.rest, scalars.poc);
     reply
 }
 

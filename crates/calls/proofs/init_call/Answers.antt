@@ -4,6 +4,6 @@ use Rattle.calls.proofs.init_call.Goals as goal
 
 pub returns : goal.returns
 returns c =
-    let runs = c.requires in
-    state-makes c.args.keys.now c.args.rows.now c.args.s 1 c.made.ensures (init-on-whole _ c.args.max_pb_size c.args.max_num_ref_pics runs.whole_state)
-    (c.init.ensures c.args.keys.now c.args.rows.now runs.sized)
+    state-makes c.args.keys.now c.args.rows.now c.args.s.now 1 c.reply_of.ensures
+    (init-on-whole _ c.args.max_pb_size c.args.max_num_ref_pics c.requires.whole_state)
+    (c.init-called.ensures c.args.keys.now c.args.rows.now c.requires.sized)

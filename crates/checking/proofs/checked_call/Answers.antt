@@ -3,7 +3,7 @@ use mathlib.Core.Path.{sym, ap, ◌∙◌}
 use Prim.Native.Nat.{ℕ}
 use Rattle.def.specs.declared.Answer.TheVariants.{Refused}
 use Rattle.def.specs.declared.Refusal.TheVariants.{StateNotWhole}
-use Rattle.machine.specs.Running.{made_of}
+use Rattle.line.specs.Answers.{reply_of}
 use Rattle.machine.proofs.Running.{ready-room, refused-makes}
 use Rattle.checking.proofs.checked_call.Goals as goal
 
@@ -13,5 +13,5 @@ make_call-requires c =
 
 pub returns : goal.returns
 returns c =
-    refused-makes c.args.s c.requires c.args.call (sym (c.is_ready.ensures c.args.rows.now) ∙ c.if-is_ready.false) c.made.result
-    (c.made.ensures ∙ ap (λ (n : ℕ). made_of n (record { answer = Refused StateNotWhole; rest = c.args.s.rest }) c.args.s.poc) c.call_byte.ensures)
+    refused-makes c.args.s.now c.requires c.args.call (sym (c.is_ready.ensures c.args.rows.now) ∙ c.if-is_ready.false) _
+    (c.reply_of.ensures ∙ ap (λ (n : ℕ). reply_of n (Refused StateNotWhole)) c.call_byte.ensures)

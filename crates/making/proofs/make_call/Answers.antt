@@ -51,4 +51,4 @@ returns-in-RefpInit c =
 pub returns-in-PocDerivation : goal.returns-in-PocDerivation
 unfolding step
 returns-in-PocDerivation c =
-    by_call c.in-PocDerivation.is (record-makes c.args.keys.now c.args.rows.now c.args.s _ _ c.requires.sized c.poc_call.ensures)
+    by_call c.in-PocDerivation.is (record-makes c.args.keys.now c.args.rows.now c.args.s.now _ _ c.requires.sized c.poc_call.ensures.reply c.poc_call.ensures.scalars)

@@ -10,8 +10,8 @@ use lib.ListN.{length, take, drop, length-drop}
 use lib.Seq.{take_all}
 use borrow.Author.Tests.{ltb-true, ltb-false}
 use Rattle.line.specs.Lines.{line_end}
-use Rattle.line.specs.declared.{Line.Line}
-use Rattle.machine.specs.declared.{Scalars.Scalars, Made.Made}
+use Rattle.line.specs.declared.{Line.Line, Reply.Reply}
+use Rattle.machine.specs.declared.Scalars.{Scalars}
 use Rattle.machine.specs.Step.{stepped, step_line}
 use Rattle.machine.specs.Running.{machine_in, Makes}
 use Rattle.machine.proofs.Running.{runs_on}
@@ -30,8 +30,8 @@ past-piece : {f : NextLine} {held piece : List ℕ} {at : ℕ} → NextIs f held
 past-piece {piece = piece} {at} n t = ltb-false (line_end piece at) (length piece) (sym n.ends ∙ t)
 
 -- what a call did, as a step of the machine
-made-step : {r : Made} {s : Scalars} {keys rows keys' rows' : List ℕ} (l : Line) → Makes r s keys rows keys' rows' (step_line (machine_in keys rows s) l)
-    → step_line (machine_in keys rows s) l ≡ stepped r.reply (machine_in keys' rows' r.scalars)
+made-step : {r : Reply} {after s : Scalars} {keys rows keys' rows' : List ℕ} (l : Line) → Makes r after s keys rows keys' rows' (step_line (machine_in keys rows s) l)
+    → step_line (machine_in keys rows s) l ≡ stepped r (machine_in keys' rows' after)
 made-step {s = s} {keys} {rows} l c = rw (c.replies, c.machine_is) refl
 
 pub next_line-found-requires : goal.next_line-found-requires
@@ -42,8 +42,8 @@ pub loop-found-init : goal.loop-found-init
 loop-found-init c =
     (begin _ _ _ _ c.requires.answers_fit, c.requires.sound.runs, c.requires.sound.room, c.requires.tables_are, c.next_line-found.ensures)
 
-pub answer_line-made-requires : goal.answer_line-made-requires
-answer_line-made-requires c = c.loop-found.invariant.1
+pub answer_line-reply-requires : goal.answer_line-reply-requires
+answer_line-reply-requires c = c.loop-found.invariant.1
 
 pub write_reply-len-requires : goal.write_reply-len-requires
 write_reply-len-requires c =
@@ -66,8 +66,8 @@ pub loop-found-preserved : goal.loop-found-preserved
 loop-found-preserved c =
     let t = c.loop-found-test.true in
     let g = c.loop-found.invariant.0 in
-    let m = c.answer_line-made.ensures in (
-      turned g (in-piece c.loop-found.invariant.4 t) c.loop-found.found.line (c.loop-found.invariant.4.says t) c.answer_line-made.result.reply _ (made-step c.loop-found.found.line m)
+    let m = c.answer_line-reply.ensures in (
+      turned g (in-piece c.loop-found.invariant.4 t) c.loop-found.found.line (c.loop-found.invariant.4.says t) c.answer_line-reply.result _ (made-step c.loop-found.found.line m)
           _ c.no_line-none.ensures.0 _ (c.loop-found.invariant.4.behind t) _ c.write_reply-len.ensures.1 _ c.write_reply-len.ensures.0,
       runs_on c.loop-found.found.line c.loop-found.invariant.1 m,
       c.no_line-none.ensures.1,

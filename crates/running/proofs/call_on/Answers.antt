@@ -7,8 +7,8 @@ use Rattle.running.proofs.call_on.Goals as goal
 
 pub returns-then-is_refusal_number : goal.returns-then-is_refusal_number
 returns-then-is_refusal_number c =
-    call-refused _ _ c.scalars_at-before.ensures c.checked_call-made.ensures
-    (in_use c.checked_call-made.result.reply.status (sym c.is_refusal_number.ensures ∙ c.if-is_refusal_number.true))
+    call-refused _ _ c.scalars_at-scalars.ensures c.checked_call-reply.ensures
+    (in_use c.checked_call-reply.result.status (sym c.is_refusal_number.ensures ∙ c.if-is_refusal_number.true))
 
 pub store-requires : goal.store-requires
 store-requires c =
@@ -16,6 +16,6 @@ store-requires c =
 
 pub returns : goal.returns
 returns c =
-    call-made _ _ c.scalars_at-before.ensures c.checked_call-made.ensures
-    (not-in-use c.checked_call-made.result.reply.status (sym c.is_refusal_number.ensures ∙ c.if-is_refusal_number.false))
+    call-made _ _ c.scalars_at-scalars.ensures c.checked_call-reply.ensures
+    (not-in-use c.checked_call-reply.result.status (sym c.is_refusal_number.ensures ∙ c.if-is_refusal_number.false))
     c.store.ensures.kept.0 c.store.ensures.kept.1
