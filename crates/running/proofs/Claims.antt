@@ -3,7 +3,6 @@
 use mathlib.Core.Path.{refl, sym}
 use Rattle.machine.specs.declared.Scalars.{Scalars}
 use Rattle.machine.specs.Step.{step_line}
-use Rattle.machine.specs.Running.{call_byte}
 use Rattle.machine.proofs.Running as running
 use Rattle.sizing.proofs.Sized.{sized-long}
 use Rattle.running.specs.Slices.{scalars_at, reply_to}
