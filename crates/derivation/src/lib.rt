@@ -19,9 +19,7 @@ const MAX_DOC_OFFSET: i32 = 32767;
 fn is_bad_record(poc: EvcPoc) -> bool
     ensures { result ≡ bad_record poc }
 {
-    (MAX_POC < poc.prev_poc_val)
-        | (poc.prev_doc_offset.0 < 0)
-        | (MAX_DOC_OFFSET < poc.prev_doc_offset.0)
+    MAX_POC < poc.prev_poc_val || !(0..=MAX_DOC_OFFSET).contains(&poc.prev_doc_offset.0)
 }
 
 // Layer 0: the record behind the picture that starts a sub-group.
@@ -49,10 +47,11 @@ fn other_picture(log2_sub_gop_length: u8, tid: u8, poc: EvcPoc) -> Result<EvcPoc
 {
     let sub_gop_length = 1u32 << log2_sub_gop_length;
     let next = (poc.prev_doc_offset.0 as u32 + 1) % sub_gop_length;
-    let mut prev_poc_val = poc.prev_poc_val;
-    if next == 0 {
-        prev_poc_val += sub_gop_length;
-    }
+    let prev_poc_val = if next == 0 {
+        poc.prev_poc_val + sub_gop_length
+    } else {
+        poc.prev_poc_val
+    };
     if MAX_POC < prev_poc_val {
         return Err(Refusal::NumberTooHigh);
     }
@@ -71,7 +70,7 @@ fn other_picture(log2_sub_gop_length: u8, tid: u8, poc: EvcPoc) -> Result<EvcPoc
 fn next_record(log2_sub_gop_length: u8, tid: u8, poc: EvcPoc) -> Result<EvcPoc, Refusal>
     ensures { left_by poc result ≡ derive log2_sub_gop_length tid poc }
 {
-    if (MAX_LOG2_SUB_GOP_LENGTH < log2_sub_gop_length) | (log2_sub_gop_length < tid) {
+    if MAX_LOG2_SUB_GOP_LENGTH < log2_sub_gop_length || log2_sub_gop_length < tid {
         return Err(Refusal::BadLayer);
     }
     if is_bad_record(poc) {
