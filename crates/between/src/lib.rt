@@ -50,9 +50,7 @@ pub fn without_hierarchy(
     inter: SliceType,
     poc: &mut EvcPoc,
 ) -> PicturePlan
-    requires {
-        (gop_size.pictures ≤ pic_imcnt) × (pic_imcnt ≤ max_poc) × (0 < pic_imcnt % gop_size.pictures)
-    }
+    requires { (gop_size.pictures ≤ pic_imcnt) × (pic_imcnt ≤ max_poc) × (0 < pic_imcnt % gop_size.pictures) }
     ensures answer { Ok result ≡ (without_hierarchy pic_imcnt gop_size.pictures inter poc.old).answer }
     ensures left { poc.new ≡ (without_hierarchy pic_imcnt gop_size.pictures inter poc.old).poc }
 {
