@@ -36,7 +36,7 @@ fn is_bad_plan(
     ensures { result ≡ bad_plan pic_imcnt gop_size.pictures key inter hierarchy }
 {
     !is_inter(inter)
-        || MAX_POC as u64 < pic_imcnt
+        || (MAX_POC as u64) < pic_imcnt
         || (!hierarchy
             && !key
             && pic_imcnt % gop_size.pictures != 0
@@ -44,12 +44,7 @@ fn is_bad_plan(
 }
 
 // A key picture, or a multiple of the length.
-fn at_count(
-    slice_type: SliceType,
-    slice_depth: u8,
-    pic_imcnt: u64,
-    poc: &mut EvcPoc,
-) -> PicturePlan
+fn at_count(slice_type: SliceType, slice_depth: u8, pic_imcnt: u64, poc: &mut EvcPoc) -> PicturePlan
     requires { pic_imcnt ≤ max_poc }
     ensures answer { Ok result ≡ (at_count slice_type slice_depth pic_imcnt).answer }
     ensures left { poc.new ≡ (at_count slice_type slice_depth pic_imcnt).poc }
@@ -78,12 +73,8 @@ fn decided(
     poc: &mut EvcPoc,
 ) -> Result<PicturePlan, Refusal>
     requires { bad_plan pic_imcnt gop_size.pictures key inter hierarchy ≡ false }
-    ensures answer {
-        result ≡ (decided_plan pic_imcnt gop_size.pictures key inter hierarchy poc.old).answer
-    }
-    ensures left {
-        poc.new ≡ (decided_plan pic_imcnt gop_size.pictures key inter hierarchy poc.old).poc
-    }
+    ensures answer { result ≡ (decided_plan pic_imcnt gop_size.pictures key inter hierarchy poc.old).answer }
+    ensures left { poc.new ≡ (decided_plan pic_imcnt gop_size.pictures key inter hierarchy poc.old).poc }
 {
     let place = pic_imcnt % gop_size.pictures;
     if key {
@@ -108,12 +99,8 @@ pub fn decide_normal_gop(
     hierarchy: bool,
     poc: &mut EvcPoc,
 ) -> Result<PicturePlan, Refusal>
-    ensures answer {
-        result ≡ (plan pic_imcnt gop_size i_period inter_slice_type hierarchy poc.old).answer
-    }
-    ensures left {
-        poc.new ≡ (plan pic_imcnt gop_size i_period inter_slice_type hierarchy poc.old).poc
-    }
+    ensures answer { result ≡ (plan pic_imcnt gop_size i_period inter_slice_type hierarchy poc.old).answer }
+    ensures left { poc.new ≡ (plan pic_imcnt gop_size i_period inter_slice_type hierarchy poc.old).poc }
 {
     let gop_size = GopSize::try_from(gop_size)?;
     let inter = slice_type_of(inter_slice_type);
