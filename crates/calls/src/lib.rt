@@ -12,7 +12,7 @@ ghost use Rattle.machine.specs.Step.{on_state, on_lists};
 ghost use Rattle.machine.specs.Running.{machine_in, Runs, Makes, made_of, derived_of};
 
 use def::{EvcPoc, PutCall, RefpCall};
-use derivation::poc_derivation;
+use derivation::evc_poc_derivation;
 use keys::{Called, PLACES, SLOTS};
 use line::{GET_EMPTY_PIC, INIT, OUT_PIC, PUT_PIC, REFP_INIT, reply_of};
 use machine::fields::derived_reply;
@@ -110,11 +110,9 @@ pub fn refp_call(keys: &[u64], rows: &mut [u32], s: Scalars, call: RefpCall) -> 
 pub fn poc_call(s: Scalars, log2_sub_gop_length: u8, tid: u8) -> Made
     ensures { result ≡ derived_of s log2_sub_gop_length tid }
 {
-    let before = s.poc;
     let rest = s.rest;
-    let d = poc_derivation(log2_sub_gop_length, tid, before);
-    let poc = d.poc;
-    let answer = d.answer;
+    let mut poc = s.poc;
+    let answer = evc_poc_derivation(log2_sub_gop_length, tid, &mut poc);
     let scalars = Scalars { rest, poc };
     Made {
         reply: derived_reply(answer),

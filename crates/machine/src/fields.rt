@@ -3,9 +3,8 @@ ghost use Rattle.std.specs.Prelude.{◌≡◌, ◌<◌};
 ghost use Rattle.machine.specs.Step.{flag, put_call_of, refp_call_of, derived_reply};
 
 use def::word::{signed_of, twos_complement};
-use def::{PutCall, RefpCall, refusal_number, slice_type_of};
+use def::{PocVal, PutCall, RefpCall, Refusal, refusal_number, slice_type_of};
 use line::{NO_BUFFER, POC_DERIVATION, Reply};
-use poc::PocAnswer;
 
 // Whether flags have the bit of a weight.
 fn flag(flags: u8, weight: u8) -> bool
@@ -49,17 +48,17 @@ pub fn refp_call_of(
 }
 
 // The fields of the answer to a derivation.
-pub fn derived_reply(answer: PocAnswer) -> Reply
+pub fn derived_reply(answer: Result<PocVal, Refusal>) -> Reply
     ensures { result ≡ derived_reply 6 answer }
 {
     match answer {
-        PocAnswer::Derived(number) => Reply {
+        Ok(number) => Reply {
             call: POC_DERIVATION,
             status: 0,
             buf: NO_BUFFER,
             value: twos_complement(number.0),
         },
-        PocAnswer::Refused(why) => Reply {
+        Err(why) => Reply {
             call: POC_DERIVATION,
             status: refusal_number(why),
             buf: NO_BUFFER,

@@ -15,7 +15,7 @@ ghost use Rattle.recording.specs.Recorded.{Recorded};
 use answering::answer_word;
 use def::word::twos_complement;
 use def::{EvcPoc, is_refusal_number};
-use derivation::poc_derivation;
+use derivation::evc_poc_derivation;
 use line::{Reply, bad_line_reply};
 use machine::fields::derived_reply;
 use registers::poc_of;
@@ -41,15 +41,13 @@ fn derive_record(registers: &mut [u32], log2_sub_gop_length: u8, tid: u8) -> Rep
         let call = PocDerivation log2_sub_gop_length tid in
         ((keys rows : List ℕ) → Sized keys rows → CallLeaves result call (slices keys rows before) (slices keys rows after)) }
 {
-    let before = poc_of(registers);
-    let derived = poc_derivation(log2_sub_gop_length, tid, before);
-    let answer = derived.answer;
+    let mut poc = poc_of(registers);
+    let answer = evc_poc_derivation(log2_sub_gop_length, tid, &mut poc);
     let reply = derived_reply(answer);
     if is_refusal_number(reply.status) {
         return reply;
     }
-    let after = derived.poc;
-    write_record(registers, after);
+    write_record(registers, poc);
     reply
 }
 
