@@ -19,7 +19,7 @@ const MAX_LOG2_IN_TABLE: u8 = 8;
 fn expected_tid(doc_offset: u32) -> u8
     ensures { result ≡ expected_temporal_id doc_offset }
 {
-    (32 - u32::leading_zeros(doc_offset)) as u8
+    (u32::BITS - doc_offset.leading_zeros()) as u8
 }
 
 // The first offset of layer `tid` from `doc_offset` on, in the order of decoding, which wraps. A layer's offsets are
