@@ -46,15 +46,16 @@ pub fn in_hierarchy(
 /// The same without the hierarchy: in the order of display, one length back. Only the number in the record is written.
 pub fn without_hierarchy(
     pic_imcnt: u64,
-    gop_size: GopSize,
+    gop_size: u64,
     inter: SliceType,
     poc: &mut EvcPoc,
 ) -> PicturePlan
-    requires { (gop_size.pictures ≤ pic_imcnt) × (pic_imcnt ≤ max_poc) × (0 < pic_imcnt % gop_size.pictures) }
-    ensures answer { Ok result ≡ (without_hierarchy pic_imcnt gop_size.pictures inter poc.old).answer }
-    ensures left { poc.new ≡ (without_hierarchy pic_imcnt gop_size.pictures inter poc.old).poc }
+    requires { (0 < gop_size) × (gop_size ≤ pic_imcnt) × (pic_imcnt ≤ max_poc)
+        × (0 < pic_imcnt % gop_size) }
+    ensures answer { Ok result ≡ (without_hierarchy pic_imcnt gop_size inter poc.old).answer }
+    ensures left { poc.new ≡ (without_hierarchy pic_imcnt gop_size inter poc.old).poc }
 {
-    let number = (pic_imcnt - gop_size.pictures) as u32;
+    let number = (pic_imcnt - gop_size) as u32;
     poc.poc_val = PocVal(number as i32);
     PicturePlan {
         slice_type: inter,

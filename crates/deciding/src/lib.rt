@@ -73,8 +73,10 @@ fn decided(
     poc: &mut EvcPoc,
 ) -> Result<PicturePlan, Refusal>
     requires { bad_plan pic_imcnt gop_size.pictures key inter hierarchy ≡ false }
-    ensures answer { result ≡ (decided_plan pic_imcnt gop_size.pictures key inter hierarchy poc.old).answer }
-    ensures left { poc.new ≡ (decided_plan pic_imcnt gop_size.pictures key inter hierarchy poc.old).poc }
+    ensures answer { result
+        ≡ (decided_plan pic_imcnt gop_size.pictures key inter hierarchy poc.old).answer }
+    ensures left { poc.new
+        ≡ (decided_plan pic_imcnt gop_size.pictures key inter hierarchy poc.old).poc }
 {
     let place = pic_imcnt % gop_size.pictures;
     if key {
@@ -86,7 +88,7 @@ fn decided(
     if hierarchy {
         return in_hierarchy(gop_size, place, inter, poc);
     }
-    Ok(without_hierarchy(pic_imcnt, gop_size, inter, poc))
+    Ok(without_hierarchy(pic_imcnt, gop_size.pictures, inter, poc))
 }
 
 /// The plan of picture `pic_imcnt`, on the record that the plan before it left. A call turned down leaves the record as it was.
@@ -99,8 +101,10 @@ pub fn decide_normal_gop(
     hierarchy: bool,
     poc: &mut EvcPoc,
 ) -> Result<PicturePlan, Refusal>
-    ensures answer { result ≡ (plan pic_imcnt gop_size i_period inter_slice_type hierarchy poc.old).answer }
-    ensures left { poc.new ≡ (plan pic_imcnt gop_size i_period inter_slice_type hierarchy poc.old).poc }
+    ensures answer { result
+        ≡ (plan pic_imcnt gop_size i_period inter_slice_type hierarchy poc.old).answer }
+    ensures left { poc.new
+        ≡ (plan pic_imcnt gop_size i_period inter_slice_type hierarchy poc.old).poc }
 {
     let gop_size = GopSize::try_from(gop_size)?;
     let inter = slice_type_of(inter_slice_type);

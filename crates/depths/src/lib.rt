@@ -1,4 +1,4 @@
-// The depth of a slice as one number for C: 0 where the tables have none.
+// The depth of a slice as one number for C: 0 where the tables have none. Two functions, one under each symbol of the C interface.
 #![tactic(auto)]
 
 ghost use Rattle.std.specs.Prelude.{◌≡◌};

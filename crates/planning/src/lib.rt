@@ -19,12 +19,7 @@ const PLAN_LENGTH: usize = 7;
 fn slice_byte(slice_type: SliceType) -> u8
     ensures { result ≡ slice_byte slice_type }
 {
-    match slice_type {
-        SliceType::EVC_ST_UNKNOWN => 0,
-        SliceType::EVC_ST_I => 1,
-        SliceType::EVC_ST_P => 2,
-        SliceType::EVC_ST_B => 3,
-    }
+    slice_type as u8
 }
 
 fn write_plan(plan: &mut [u8], picture: PicturePlan)
@@ -70,7 +65,7 @@ fn plan_on(
     Ok(())
 }
 
-// The same for C: 0, or the refusal.
+// The same for C: 0, or the refusal. The numbers of a plan come singly, as the C interface gives them.
 pub fn plan_picture(
     count: u64,
     gop_size: u64,

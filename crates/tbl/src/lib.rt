@@ -1,10 +1,9 @@
-// Slice depths: the tables of the Rust's src/enc/tbl.rs, a row for each of the group lengths 2, 4, 8, 12 and 16, and the lengths themselves.
+// The lengths of a group, and slice depths: the tables of the Rust's src/enc/tbl.rs, a row for each of the lengths 2, 4, 8, 12 and 16.
 #![tactic(auto)]
 
-ghost use Rattle.std.specs.Prelude.{◌≡◌, ◌+◌, ◌/◌, ◌<◌, ◌≤◌, true, false, MatchResult};
-ghost use Rattle.def.specs.declared.Refusal.TheVariants.{BadLength};
+ghost use Rattle.std.specs.Prelude.{◌≡◌, ◌≤◌, true};
 ghost use Rattle.def.specs.Binary.{floor_log2};
-ghost use Rattle.tbl.specs.DepthRows.{is_gop_size, depth_rule, slice_depth, slice_depth_p, entry_of};
+ghost use Rattle.tbl.specs.DepthRows.{is_gop_size, slice_depth, slice_depth_p, entry_of};
 
 use def::{
     FRM_DEPTH_1 as DEPTH_1, FRM_DEPTH_2 as DEPTH_2, FRM_DEPTH_3 as DEPTH_3, FRM_DEPTH_4 as DEPTH_4,
@@ -91,7 +90,9 @@ pub struct GopSize {
 impl TryFrom<u64> for GopSize {
     type Error = Refusal;
 
-    ghost try_from_gives = { λ n r. MatchResult r (λ size. size.pictures ≡ n) (λ why. (why ≡ BadLength) × (is_gop_size n ≡ false)) };
+    ghost use Rattle.tbl.specs.GopSize.{GivesSize};
+
+    ghost try_from_gives = { GivesSize };
 
     fn try_from(pictures: u64) -> Result<Self, Refusal> {
         if !is_gop_size(pictures) {

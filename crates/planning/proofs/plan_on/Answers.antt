@@ -40,10 +40,10 @@ returns-then-poc-ne-RECORD_LENGTH c =
       | record_size w ↦ rw (ne_eqb (length bs) poc_width w.if-poc-ne-RECORD_LENGTH.true)
       | plan_size w ↦ rw (eq-eqb (length bs) poc_width w.if-poc-ne-RECORD_LENGTH.false, ne_eqb (length ps) plan_width w.if-plan-ne-PLAN_LENGTH.true)
       | no_flag w ↦ rw (
-          eq-eqb (length bs) poc_width w.if-poc-ne-RECORD_LENGTH.false,
-          eq-eqb (length ps) plan_width w.if-plan-ne-PLAN_LENGTH.false,
-          lt-leb c.args.hierarchy 1 w.if-hierarchy-gt1.true,
-        )
+        eq-eqb (length bs) poc_width w.if-poc-ne-RECORD_LENGTH.false,
+        eq-eqb (length ps) plan_width w.if-plan-ne-PLAN_LENGTH.false,
+        lt-leb c.args.hierarchy 1 w.if-hierarchy-gt1.true,
+      )
     ]
 
 pub returns : goal.returns
