@@ -13,7 +13,7 @@ ghost use Rattle.machine.specs.Step.{on_state, on_lists, derived_reply};
 ghost use Rattle.machine.specs.Running.{machine_in, Runs, Makes};
 
 use def::{PutCall, RefpCall};
-use derivation::poc_derivation;
+use derivation::evc_poc_derivation;
 use keys::{PLACES, SLOTS};
 use line::{GET_EMPTY_PIC, INIT, OUT_PIC, PUT_PIC, REFP_INIT, Reply, reply_of};
 use machine::Scalars;
@@ -86,7 +86,5 @@ pub fn poc_call(s: &mut Scalars, log2_sub_gop_length: u8, tid: u8) -> Reply
     ensures scalars { let d = derive log2_sub_gop_length tid s.old.poc in
         s.new ≡ record { rest = s.old.rest; poc = d.poc } }
 {
-    let derived = poc_derivation(log2_sub_gop_length, tid, s.poc);
-    s.poc = derived.poc;
-    derived_reply(derived.answer)
+    derived_reply(evc_poc_derivation(log2_sub_gop_length, tid, &mut s.poc))
 }

@@ -14,7 +14,7 @@ use Rattle.seq.proofs.Rows.{test_at}
 use Rattle.def.specs.Binary.{floor_log2}
 use Rattle.def.specs.declared.Refusal.TheVariants.{BadLength}
 use Rattle.tbl.specs.DepthRows.{is_gop_size, depth_rule, depth_rule_p, slice_depth, slice_depth_p}
-use Rattle.tbl.specs.declared.SliceDepth.TheVariants.{Depth, Refused}
+use Rattle.std.specs.Prelude.{Ok, Err}
 use Rattle.tbl.proofs.Rows.{each-length}
 use Rattle.depths.specs.Depths.{depth_or_zero}
 use Rattle.depths.specs.Claims.{DepthZero, DepthPZero}
@@ -28,8 +28,8 @@ above_zero : (n j : ℕ) → is_gop_size n ≡ true → j < n → 0 < depth_rule
 above_zero n j e h = ltb-true 0 (depth_rule_p n j) (test_at (λ k. ltb 0 (depth_rule_p n k)) (λ k. k) n (rows_above n e) j h)
 
 -- where a depth above 0 is shown if the test b holds, a 0 is a refusal
-zero-refused : (b : Bool) (d : ℕ) → (b ≡ true → 0 < d) → depth_or_zero (cond b (Depth d) (Refused BadLength)) ≡ 0
-    → cond b (Depth d) (Refused BadLength) ≡ Refused BadLength
+zero-refused : (b : Bool) (d : ℕ) → (b ≡ true → 0 < d) → depth_or_zero (cond b (Ok d) (Err BadLength)) ≡ 0
+    → cond b (Ok d) (Err BadLength) ≡ Err BadLength
 zero-refused true d above e = let h = above refl in absurd (omega arith)
 zero-refused false d above e = refl
 

@@ -1,9 +1,8 @@
 -- What the two depth functions give C: the depth, or 0 where it is refused.
 -- Assumes nothing.
-use Rattle.std.specs.Prelude.{ℕ}
-use Rattle.tbl.specs.declared.SliceDepth.{SliceDepth}
-use Rattle.tbl.specs.declared.SliceDepth.TheVariants.{Depth, Refused}
+use Rattle.std.specs.Prelude.{ℕ, Result}
+use Rattle.std.specs.Result.{result_unwrap_or}
+use Rattle.def.specs.declared.Refusal.{Refusal}
 
-abbrev pub depth_or_zero : SliceDepth → ℕ
-depth_or_zero (Depth d) = d
-depth_or_zero (Refused why) = 0
+abbrev pub depth_or_zero : Result ℕ Refusal → ℕ
+depth_or_zero depth = result_unwrap_or depth 0

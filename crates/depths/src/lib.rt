@@ -1,31 +1,22 @@
-// The depth of a slice as one number for C: 0 where the tables have none.
+// The depth of a slice as one number for C: 0 where the tables have none. Two functions, one under each symbol of the C interface.
 #![tactic(auto)]
 
 ghost use Rattle.std.specs.Prelude.{◌≡◌};
 ghost use Rattle.tbl.specs.DepthRows.{slice_depth, slice_depth_p};
 ghost use Rattle.depths.specs.Depths.{depth_or_zero};
 
-use tbl::{SliceDepth, slice_depth, slice_depth_p};
-
-fn number_of(depth: SliceDepth) -> u8
-    ensures { result ≡ depth_or_zero depth }
-{
-    match depth {
-        SliceDepth::Depth(d) => d,
-        SliceDepth::Refused(_) => 0,
-    }
-}
+use tbl::{slice_depth, slice_depth_p};
 
 // The depth at a position of a group with a hierarchy of B slices.
 pub fn depth_or_zero(gop_size: u64, position: u64) -> u8
     ensures { result ≡ depth_or_zero (slice_depth gop_size position) }
 {
-    number_of(slice_depth(gop_size, position))
+    slice_depth(gop_size, position).unwrap_or(0)
 }
 
 // The depth at a position of a group of P slices.
 pub fn depth_p_or_zero(gop_size: u64, position: u64) -> u8
     ensures { result ≡ depth_or_zero (slice_depth_p gop_size position) }
 {
-    number_of(slice_depth_p(gop_size, position))
+    slice_depth_p(gop_size, position).unwrap_or(0)
 }

@@ -14,5 +14,5 @@ pub fn read_flag(image: &[u8], at: usize) -> bool
 pub fn flag_byte(b: bool) -> u8
     ensures { result ≡ flag_byte b }
 {
-    if b { 1 } else { 0 }
+    u8::from(b)
 }

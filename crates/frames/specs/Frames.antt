@@ -2,10 +2,9 @@
 -- and one proof that computes over the whole list (proofs/Frames.antt). Twelve stars are thirteen rows: the star of L 0, layer 0 says two
 -- things, what previous 2,147,483,646 gives and what comes from there.
 -- Assumes nothing.
-use Rattle.std.specs.Prelude.{ℕ, ◌≡◌, Bool, true, false, List, [], ◌∷◌, ◌++◌, map, ℤ, pos, negsuc, replicate, take, drop}
+use Rattle.std.specs.Prelude.{ℕ, ◌≡◌, Bool, true, false, List, [], ◌∷◌, ◌++◌, map, ℤ, pos, negsuc, replicate, take, drop, Result, Ok, Err}
 use Rattle.def.specs.State.{list_places, empty_slot, occupied_by, new_pm, with_store}
-use Rattle.def.specs.declared.{Slot.Slot, EvcPm.EvcPm, EvcRefP.EvcRefP, EvcPoc.EvcPoc, RefpCall.RefpCall, Answer.Answer, Refusal.Refusal, SliceType.SliceType}
-use Rattle.poc.specs.declared.PocAnswer.{PocAnswer}
+use Rattle.def.specs.declared.{PocVal.PocVal, Slot.Slot, EvcPm.EvcPm, EvcRefP.EvcRefP, EvcPoc.EvcPoc, RefpCall.RefpCall, Answer.Answer, Refusal.Refusal, SliceType.SliceType}
 use Rattle.poc.specs.PictureNumber.{derive, record_of}
 use Rattle.marking.specs.Marking.{marking}
 use Rattle.refp.specs.Lists.{lists}
@@ -13,7 +12,7 @@ use Rattle.refp.specs.Lists.{lists}
 -- What a frame shows: a derivation's answer with the previous number after it; the slots after marking with the stored count; or the answer of
 -- a list call, the two stored counts, and the numbers of so many entries of each list.
 pub data Shown : Type 0 where
-  number : PocAnswer → ℕ → Shown
+  number : Result PocVal Refusal → ℕ → Shown
   store : List Slot → ℕ → Shown
   both : Answer → ℕ → ℕ → List ℕ → List ℕ → Shown
 
@@ -31,8 +30,8 @@ before prev d = record_of (pos 0) prev d
 abbrev pub derived : ℕ → ℕ → EvcPoc → Shown
 derived L t r = number (derive L t r).answer (derive L t r).poc.prev_poc_val
 
-abbrev pub is : ℤ → PocAnswer
-is z = PocAnswer.Derived (record { 0 = z })
+abbrev pub is : ℤ → Result PocVal Refusal
+is z = Ok (record { 0 = z })
 
 -- The record after derivations of these layers.
 unfoldable pub state_after : ℕ → List ℕ → EvcPoc → EvcPoc
@@ -89,9 +88,9 @@ frames =
     ∷ frame (derived 3 1 (before 8 7)) (number (is (pos 12)) 16)
     ∷ frame (derived 2 1 (before 0 0)) (number (is (negsuc 1)) 0)
     ∷ frame (derived 15 15 (before 32768 32766)) (number (is (pos 32767)) 32768)
-    ∷ frame (derived 0 1 (before 0 0)) (number (PocAnswer.Refused Refusal.BadLayer) 0)
+    ∷ frame (derived 0 1 (before 0 0)) (number (Err Refusal.BadLayer) 0)
     ∷ frame (derived 0 0 (before 2147483646 0)) (number (is (pos 2147483647)) 2147483647)
-    ∷ frame (derived 0 0 (state_after 0 (0 ∷ []) (before 2147483646 0))) (number (PocAnswer.Refused Refusal.NumberTooHigh) 2147483647)
+    ∷ frame (derived 0 0 (state_after 0 (0 ∷ []) (before 2147483646 0))) (number (Err Refusal.NumberTooHigh) 2147483647)
     ∷ frame (marks 0 (holding (ref 0 ∷ ref 1 ∷ ref 2 ∷ ref 3 ∷ ref 4 ∷ empty 22) 5))
     (store (ref 1 ∷ ref 2 ∷ ref 3 ∷ ref 4 ∷ (empty 22 ++ (picture false 0 0 ∷ []))) 4)
     ∷ frame (marks 4 (holding (ref 3 ∷ ref 4 ∷ ref 5 ∷ empty 24) 3)) (store (ref 3 ∷ ref 4 ∷ (empty 24 ++ (picture false 5 0 ∷ []))) 2)

@@ -1,4 +1,5 @@
 -- The claims about plans, proved. Assumes nothing.
+use Rattle.std.specs.Prelude.{Result, Ok, Err}
 use Prim.Native.Nat.{ℕ, ◌+◌, ◌*◌, ◌%◌, ◌≤◌, ◌<◌}
 use native.Mathlib.Nat.{mod-lt, mul-mod_left}
 use native.Mathlib.Omega.{arith}
@@ -13,18 +14,18 @@ use borrow.Author.Tests.{le-ltb, eq-eqb, ne_eqb, eqb-false, not-false}
 use Rattle.seq.proofs.Members.{mem-unmap, mem-select}
 use Rattle.def.specs.Binary.{floor_log2}
 use Rattle.def.specs.Constants.{slice_type_of}
-use Rattle.def.specs.declared.{EvcPoc.EvcPoc, Refusal.Refusal, SliceType.SliceType}
+use Rattle.def.specs.declared.{EvcPoc.EvcPoc, PocVal.PocVal, Refusal.Refusal, SliceType.SliceType}
 use Rattle.tbl.specs.DepthRows.{is_gop_size, depth_rule}
-use Rattle.poc.specs.declared.{PocAnswer.PocAnswer, Derivation.Derivation}
-use Rattle.poc.specs.PictureNumber.{max_poc, max_log2, derive}
+use Rattle.poc.specs.PictureNumber.{Derivation, max_poc, max_log2, derive}
 use Rattle.poc.specs.Why.{Refusing}
 use Rattle.poc.specs.Distance.{Step, run, is_accepted, accepted_steps, number_of, layer_of, AfterKey, Between, Apart}
 use Rattle.poc.specs.FullRun.{layers_from, full_run, IsFullRun}
 use Rattle.poc.proofs.Apart.{distance-from}
 use Rattle.poc.proofs.FullRun.{full-run-exists}
 use Rattle.poc.proofs.Why.{derive-why, derive-refused}
-use Rattle.gop.specs.declared.{PicturePlan.PicturePlan, PlanAnswer.PlanAnswer, Planning.Planning}
+use Rattle.gop.specs.declared.PicturePlan.{PicturePlan}
 use Rattle.gop.specs.Plan as P
+use Rattle.gop.specs.Plan.{Planning}
 use Rattle.gop.specs.Group.{is_planned, planned_number, plan_of, Group, PlannedRun, first_of, later_of}
 use Rattle.gop.specs.Claims.{RefusedKeeps, NeverBadLayer, PlansAreFullRun, GroupsExist, EightAsListed, KeyBeforeMultiple, MultipleReadsNone}
 use Rattle.gop.proofs.Lengths.{Length, a-length, layer_at, layer_fits}
@@ -39,10 +40,10 @@ module _ (inter : SliceType) (L : ℕ) where
       flag : Bool
       flag = not (eqb (layer_of s + 1) (L + 1))
 
-      go : (a : PocAnswer)
+      go : (a : Result PocVal Refusal)
           → is_planned (P.derived_plan inter (layer_of s + 1) flag a s.after) ≡ is_accepted (record { call = s.call; answer = a; after = s.after })
-      go (PocAnswer.Derived n) = refl
-      go (PocAnswer.Refused why) = refl
+      go (Ok n) = refl
+      go (Err why) = refl
 
   number-as : (s : Step) → planned_number (plan_of inter L s) ≡ number_of s
   number-as s = go s.answer
@@ -50,10 +51,10 @@ module _ (inter : SliceType) (L : ℕ) where
       flag : Bool
       flag = not (eqb (layer_of s + 1) (L + 1))
 
-      go : (a : PocAnswer)
+      go : (a : Result PocVal Refusal)
           → planned_number (P.derived_plan inter (layer_of s + 1) flag a s.after) ≡ number_of (record { call = s.call; answer = a; after = s.after })
-      go (PocAnswer.Derived n) = refl
-      go (PocAnswer.Refused why) = refl
+      go (Ok n) = refl
+      go (Err why) = refl
 
   numbers_as : (ss : List Step) → map planned_number (map (plan_of inter L) ss) ≡ map number_of ss
   numbers_as [] = refl
@@ -157,13 +158,13 @@ asked count length r = derive (floor_log2 length) (layer_at (count % length)) r
 
 -- what holds of every plan that is accepted, and of each refusal, holds of what the planner gives
 module _ (count length interval inter : ℕ) (hierarchy : Bool) (r : EvcPoc) (Q : Planning → Type 0)
-    (done : (p : PicturePlan) (q : EvcPoc) → Q (record { answer = PlanAnswer.Planned p; poc = q }))
-    (derived : is_gop_size length ≡ true → 1 ≤ count % length → (why : Refusal) → (asked count length r).answer ≡ PocAnswer.Refused why
+    (done : (p : PicturePlan) (q : EvcPoc) → Q (record { answer = Ok p; poc = q }))
+    (derived : is_gop_size length ≡ true → 1 ≤ count % length → (why : Refusal) → (asked count length r).answer ≡ Err why
     → Q (P.refused_plan why (asked count length r).poc)) where
-  by_answer : (a : PocAnswer) → (asked count length r).answer ≡ a → is_gop_size length ≡ true → 1 ≤ count % length → (depth : ℕ) (flag : Bool)
+  by_answer : (a : Result PocVal Refusal) → (asked count length r).answer ≡ a → is_gop_size length ≡ true → 1 ≤ count % length → (depth : ℕ) (flag : Bool)
       → Q (P.derived_plan (slice_type_of inter) depth flag a (asked count length r).poc)
-  by_answer (PocAnswer.Derived n) e l m depth flag = done _ _
-  by_answer (PocAnswer.Refused why) e l m depth flag = derived l m why e
+  by_answer (Ok n) e l m depth flag = done _ _
+  by_answer (Err why) e l m depth flag = derived l m why e
 
   each_way : Q (P.refused_plan Refusal.BadLength r) → Q (P.refused_plan Refusal.BadPlan r) → Q (P.plan count length interval inter hierarchy r)
   unfolding P.plan
@@ -176,16 +177,16 @@ module _ (count length interval inter : ℕ) (hierarchy : Bool) (r : EvcPoc) (Q 
       (λ _. by_answer (asked count length r).answer refl (not-false _ l) (let e = eqb-false (count % length) 0 m in omega arith) _ _)
       (λ _. done _ _)))))
 
-not-refused : {p : PicturePlan} {why : Refusal} → PlanAnswer.Planned p ≡ PlanAnswer.Refused why → ⊥
-not-refused e = let z : ◌≡◌ {A = ℕ} 0 1 = cc in omega arith
+not-refused : {p : PicturePlan} {why : Refusal} → Ok p ≡ Err why → ⊥
+not-refused e = cc
 
 pub refused-keeps : RefusedKeeps
 refused-keeps count length interval inter hierarchy r =
-    each_way count length interval inter hierarchy r (λ (x : Planning). (why : Refusal) → x.answer ≡ PlanAnswer.Refused why → x.poc ≡ r)
+    each_way count length interval inter hierarchy r (λ (x : Planning). (why : Refusal) → x.answer ≡ Err why → x.poc ≡ r)
     (λ _ _ _ e. absurd (not-refused e)) (λ _ _ why a _ _. derive-refused _ _ r why a) (λ _ _. refl) (λ _ _. refl)
 
 -- the derivation gives 15 for no layer that the sub-group has
-not-bad-layer : (L t : ℕ) (r : EvcPoc) → L ≤ max_log2 → t ≤ L → (derive L t r).answer ≡ PocAnswer.Refused Refusal.BadLayer → ⊥
+not-bad-layer : (L t : ℕ) (r : EvcPoc) → L ≤ max_log2 → t ≤ L → (derive L t r).answer ≡ Err Refusal.BadLayer → ⊥
 not-bad-layer L t r short fits e = by ((derive-why L t r Refusal.BadLayer).0 e)
   where
     by : Refusing L t r Refusal.BadLayer → ⊥
@@ -193,14 +194,11 @@ not-bad-layer L t r short fits e = by ((derive-why L t r Refusal.BadLayer).0 e)
 
 pub never-bad-layer : NeverBadLayer
 never-bad-layer count length interval inter hierarchy r =
-    each_way count length interval inter hierarchy r (λ (x : Planning). x.answer ≡ PlanAnswer.Refused Refusal.BadLayer → ⊥)
-    (λ _ _ e. not-refused e) (λ l m why a e. derived l m (a ∙ ap PocAnswer.Refused (same e)))
-    (λ e. let z : ◌≡◌ {A = ℕ} 0 1 = cc in omega arith) (λ e. let z : ◌≡◌ {A = ℕ} 0 1 = cc in omega arith)
+    each_way count length interval inter hierarchy r (λ (x : Planning). x.answer ≡ Err Refusal.BadLayer → ⊥)
+    (λ _ _ e. not-refused e) (λ l m why a e. let k : why ≡ Refusal.BadLayer = cc in derived l m (a ∙ ap Err k))
+    (λ e. cc) (λ e. cc)
   where
-    same : {a b : Refusal} → PlanAnswer.Refused a ≡ PlanAnswer.Refused b → a ≡ b
-    same e = cc
-
-    derived : is_gop_size length ≡ true → 1 ≤ count % length → (asked count length r).answer ≡ PocAnswer.Refused Refusal.BadLayer → ⊥
+    derived : is_gop_size length ≡ true → 1 ≤ count % length → (asked count length r).answer ≡ Err Refusal.BadLayer → ⊥
     derived l m =
         let known = a-length length l in
         let low = known.above-one in

@@ -1,4 +1,5 @@
 -- The plans between two multiples are the derivations of the full run. Assumes nothing.
+use Rattle.std.specs.Prelude.{Result, Ok, Err}
 use Prim.Native.Nat.{ℕ, zero, suc, ◌+◌, ◌-◌, ◌%◌, ◌≤◌, ◌<◌}
 use native.Mathlib.Nat.{zero-add, add-mod, mod-eq_of_lt}
 use native.Mathlib.Omega.{arith}
@@ -9,14 +10,12 @@ use lib.Dec.{eqb}
 use borrow.Author.Tests.{le-ltb, ne_eqb}
 use Rattle.def.specs.Binary.{floor_log2}
 use Rattle.def.specs.Constants.{slice_type_of}
-use Rattle.def.specs.declared.{EvcPoc.EvcPoc, SliceType.SliceType}
+use Rattle.def.specs.declared.{EvcPoc.EvcPoc, PocVal.PocVal, Refusal.Refusal, SliceType.SliceType}
 use Rattle.tbl.specs.DepthRows.{depth_rule}
 use Rattle.poc.specs.PictureNumber.{max_poc}
 use Rattle.poc.specs.Distance.{Step, step, run, layer_of}
-use Rattle.poc.specs.declared.PocAnswer.{PocAnswer}
 use Rattle.poc.specs.FullRun.{call_of, full_run}
-use Rattle.gop.specs.declared.Planning.{Planning}
-use Rattle.gop.specs.Plan.{is_inter, depth_of, derived_plan, in_hierarchy, plan}
+use Rattle.gop.specs.Plan.{Planning, is_inter, depth_of, derived_plan, in_hierarchy, plan}
 use Rattle.gop.specs.Group.{plans_from, plan_of, Group}
 use Rattle.gop.proofs.Lengths.{Length, a-length, layer_at, layers_at}
 
@@ -28,9 +27,9 @@ place_of p n j m h = add-mod p j n ∙ rw (m, mod-eq_of_lt h, zero-add j, mod-eq
 plan_after : (inter : SliceType) (L : ℕ) (s : Step) → (plan_of inter L s).poc ≡ s.after
 plan_after inter L s = go s.answer
   where
-    go : (a : PocAnswer) → (derived_plan inter (layer_of s + 1) (not (eqb (layer_of s + 1) (L + 1))) a s.after).poc ≡ s.after
-    go (PocAnswer.Derived n) = refl
-    go (PocAnswer.Refused why) = refl
+    go : (a : Result PocVal Refusal) → (derived_plan inter (layer_of s + 1) (not (eqb (layer_of s + 1) (L + 1))) a s.after).poc ≡ s.after
+    go (Ok n) = refl
+    go (Err why) = refl
 
 module _ (n interval inter p : ℕ) (type : is_inter (slice_type_of inter) ≡ true) (g : Group n interval p) where
   known : Length n

@@ -1,12 +1,11 @@
 -- What is claimed of plans beyond the contract. Assumes nothing.
-use Rattle.std.specs.Prelude.{ℕ, ◌-◌, ◌*◌, ◌^◌, ◌≤◌, ◌≡◌, Bool, true, [], ◌∷◌, map}
+use Rattle.std.specs.Prelude.{ℕ, ◌-◌, ◌*◌, ◌^◌, ◌≤◌, ◌≡◌, Bool, true, [], ◌∷◌, map, Err}
 use Rattle.def.specs.Binary.{floor_log2}
 use Rattle.def.specs.Constants.{slice_type_of}
 use Rattle.def.specs.declared.{EvcPoc.EvcPoc, Refusal.Refusal, SliceType.SliceType}
 use Rattle.tbl.specs.DepthRows.{is_gop_size}
 use Rattle.poc.specs.PictureNumber.{max_poc}
 use Rattle.poc.specs.FullRun.{full_layers}
-use Rattle.gop.specs.declared.PlanAnswer.{PlanAnswer}
 use Rattle.gop.specs.Plan.{is_inter, at_count, depth_of, plan}
 use Rattle.gop.specs.Group.{Group, PlannedRun, first_of, later_of}
 
@@ -14,13 +13,13 @@ use Rattle.gop.specs.Group.{Group, PlannedRun, first_of, later_of}
 abbrev pub RefusedKeeps : Type 0
 RefusedKeeps =
     (count length interval inter : ℕ) (hierarchy : Bool) (r : EvcPoc) (why : Refusal)
-    → (plan count length interval inter hierarchy r).answer ≡ PlanAnswer.Refused why → (plan count length interval inter hierarchy r).poc ≡ r
+    → (plan count length interval inter hierarchy r).answer ≡ Err why → (plan count length interval inter hierarchy r).poc ≡ r
 
 -- The derivation is only asked for layers that the group has, so 15 never comes.
 abbrev pub NeverBadLayer : Type 0
 NeverBadLayer =
     (count length interval inter : ℕ) (hierarchy : Bool) (r : EvcPoc)
-    → (plan count length interval inter hierarchy r).answer ≡ PlanAnswer.Refused Refusal.BadLayer → ⊥
+    → (plan count length interval inter hierarchy r).answer ≡ Err Refusal.BadLayer → ⊥
 
 -- A group planned in its order with the hierarchy on, from a multiple of the length up to the next one and without a key picture inside, is a full run
 -- of the distance rule: for each of the four lengths, any interval, P and B, and whatever record stood there.

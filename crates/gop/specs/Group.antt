@@ -1,15 +1,15 @@
 -- A group as it is planned: the counts of one length, the first of them a multiple of it, in their order and with the hierarchy on.
 -- Assumes nothing.
-use Rattle.std.specs.Prelude.{ℕ, zero, suc, ◌+◌, ◌-◌, ◌%◌, ◌≤◌, ◌<◌, ◌≡◌, Bool, true, false, not, eqb, ℤ, pos}
+use Rattle.std.specs.Prelude.{ℕ, zero, suc, ◌+◌, ◌-◌, ◌%◌, ◌≤◌, ◌<◌, ◌≡◌, Bool, true, false, not, eqb, ℤ, pos, Result, Ok, Err}
 use mathlib.Core.List.{List, [], ◌∷◌, map, Memᴰ}
 use Rattle.seq.specs.Lists.{Distinct, Once}
-use Rattle.def.specs.declared.{EvcPoc.EvcPoc, SliceType.SliceType}
+use Rattle.def.specs.declared.{EvcPoc.EvcPoc, Refusal.Refusal, SliceType.SliceType}
 use Rattle.tbl.specs.DepthRows.{is_gop_size}
 use Rattle.poc.specs.PictureNumber.{max_poc}
 use Rattle.poc.specs.Distance.{Step, accepted_steps, layer_of, AfterKey, Between, Apart}
 use Rattle.poc.specs.FullRun.{full_run}
-use Rattle.gop.specs.declared.{PlanAnswer.PlanAnswer, Planning.Planning}
-use Rattle.gop.specs.Plan.{is_key, derived_plan, plan}
+use Rattle.gop.specs.declared.PicturePlan.{PicturePlan}
+use Rattle.gop.specs.Plan.{Planning, is_key, derived_plan, plan}
 
 -- n counts planned in turn, each on the record that the last one left.
 unfoldable pub plans_from : ℕ → ℕ → ℕ → ℕ → ℕ → EvcPoc → List Planning
@@ -22,17 +22,17 @@ plans_from (suc n) count length interval inter r =
 abbrev pub is_planned : Planning → Bool
 is_planned x = accepts x.answer
   where
-    accepts : PlanAnswer → Bool
-    accepts (PlanAnswer.Planned p) = true
-    accepts (PlanAnswer.Refused why) = false
+    accepts : Result PicturePlan Refusal → Bool
+    accepts (Ok p) = true
+    accepts (Err why) = false
 
 -- A plan turned down has no number, and 0 stands for it where nothing reads it.
 abbrev pub planned_number : Planning → ℤ
 planned_number x = shown x.answer
   where
-    shown : PlanAnswer → ℤ
-    shown (PlanAnswer.Planned p) = p.poc_val.0
-    shown (PlanAnswer.Refused why) = pos 0
+    shown : Result PicturePlan Refusal → ℤ
+    shown (Ok p) = p.poc_val.0
+    shown (Err why) = pos 0
 
 -- The plan that a derivation in a group of 2^L makes: its depth is one more than the layer, and the last depth is no reference.
 abbrev pub plan_of : SliceType → ℕ → Step → Planning

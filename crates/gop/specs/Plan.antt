@@ -1,14 +1,13 @@
 -- The group planner: from the running count, the group's length, the key interval, the inter slice type, the hierarchy and the
 -- picture number record, a picture's slice type, depth, number and reference flag, with the record after. Section 6 of the
 -- specification, and the Rust's `decide_normal_gop`. Assumes nothing.
-use Rattle.std.specs.Prelude.{ℕ, ◌-◌, ◌%◌, Bool, true, false, cond, ◌&&◌, ◌||◌, not, ltb, eqb, ℤ, pos}
+use Rattle.std.specs.Prelude.{ℕ, ◌-◌, ◌%◌, Bool, true, false, cond, ◌&&◌, ◌||◌, not, ltb, eqb, ℤ, pos, Result, Ok, Err}
 use Rattle.def.specs.Binary.{floor_log2}
 use Rattle.def.specs.Constants.{slice_type_of}
-use Rattle.def.specs.declared.{EvcPoc.EvcPoc, Refusal.Refusal, SliceType.SliceType}
+use Rattle.def.specs.declared.{EvcPoc.EvcPoc, PocVal.PocVal, Refusal.Refusal, SliceType.SliceType}
 use Rattle.tbl.specs.DepthRows.{is_gop_size, depth_rule}
-use Rattle.poc.specs.declared.{PocAnswer.PocAnswer}
+use Rattle.gop.specs.declared.PicturePlan.{PicturePlan}
 use Rattle.poc.specs.PictureNumber.{max_poc, offset_from, record_of, derive}
-use Rattle.gop.specs.declared.{PlanAnswer.PlanAnswer, Planning.Planning}
 
 -- ---- what is asked
 
@@ -33,15 +32,20 @@ bad_plan count length key inter hierarchy = not (is_inter inter) || ltb max_poc 
 
 -- ---- what is given
 
+-- A plan, or why there is none, with the record for the next one.
+pub record Planning : Type 0 where
+  pub answer : Result PicturePlan Refusal
+  pub poc : EvcPoc
+
 -- A call turned down leaves the record as it was.
 abbrev pub refused_plan : Refusal → EvcPoc → Planning
-refused_plan why r = record { answer = PlanAnswer.Refused why; poc = r }
+refused_plan why r = record { answer = Err why; poc = r }
 
 -- Slice type, depth, number and reference flag, with the record after.
 abbrev pub planned : SliceType → ℕ → ℤ → Bool → EvcPoc → Planning
 planned slice depth z flag r =
     record {
-      answer = PlanAnswer.Planned (record { slice_type = slice; slice_depth = depth; poc_val = record { 0 = z }; slice_ref_flag = flag });
+      answer = Ok (record { slice_type = slice; slice_depth = depth; poc_val = record { 0 = z }; slice_ref_flag = flag });
       poc = r;
     }
 
@@ -56,9 +60,9 @@ depth_of place = depth_rule (place - 1)
 
 -- The number is derived, in a sub-group of the group's length, on the layer one less than the depth; where the derivation turns
 -- it down, so does the planner. A picture is a reference unless it stands at the row's last depth.
-abbrev pub derived_plan : SliceType → ℕ → Bool → PocAnswer → EvcPoc → Planning
-derived_plan inter depth flag (PocAnswer.Derived n) r = planned inter depth n.0 flag r
-derived_plan inter depth flag (PocAnswer.Refused why) r = refused_plan why r
+abbrev pub derived_plan : SliceType → ℕ → Bool → Result PocVal Refusal → EvcPoc → Planning
+derived_plan inter depth flag (Ok n) r = planned inter depth n.0 flag r
+derived_plan inter depth flag (Err why) r = refused_plan why r
 
 abbrev pub in_hierarchy : ℕ → ℕ → SliceType → EvcPoc → Planning
 in_hierarchy length place inter r =

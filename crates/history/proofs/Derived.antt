@@ -1,5 +1,6 @@
 -- The numbers that a run's derivations give are those of the clip's rule, as 32-bit words; words of numbers that fit differ where the numbers do.
 -- Assumes nothing.
+use Rattle.std.specs.Prelude.{Result, Ok, Err}
 use Prim.Native.Nat.{ℕ, suc, ◌+◌, ◌-◌, ◌^◌, ◌≤◌, ◌<◌}
 use mathlib.Core.Path.{◌≡◌, refl, sym, ap, ◌∙◌, subst}
 use mathlib.Core.Bool.{Bool, true, false, cond, ◌||◌}
@@ -15,12 +16,11 @@ use borrow.Author.Tests.{ltb-true, ltb-false}
 use Rattle.seq.specs.Lists.{select, Distinct}
 use Rattle.seq.proofs.Members.{mem-select, mem-unmap}
 use Rattle.seq.proofs.Distinct.{distinct-by, fewer-distinct}
-use Rattle.def.specs.declared.EvcPoc.{EvcPoc}
+use Rattle.def.specs.declared.{EvcPoc.EvcPoc, PocVal.PocVal, Refusal.Refusal}
 use Rattle.def.specs.declared.Refusal.TheVariants.{NumberTooHigh, BadLayer, BadRecord}
 use Rattle.def.specs.Word.{twos_complement, signed_of}
 use Rattle.def.proofs.WordLaws.{signed-of-complement}
-use Rattle.poc.specs.declared.{PocAnswer.PocAnswer, Derivation.Derivation}
-use Rattle.poc.specs.PictureNumber.{max_poc, max_log2, settled, key_picture, other_picture, derivation_refused, bad_record}
+use Rattle.poc.specs.PictureNumber.{Derivation, max_poc, max_log2, settled, key_picture, other_picture, derivation_refused, bad_record}
 use Rattle.poc.specs.PictureNumber.{next_offset, next_previous, offset_from, number, record_of, derive}
 use Rattle.poc.specs.Distance as poc
 use Rattle.poc.specs.Distance.{run, accepted_steps, number_of}
@@ -58,13 +58,13 @@ derived-shown m (Line.Good (Call.PocDerivation L t) ∷ ls) =
     later : List poc.Step
     later = accepted_steps d.poc (derivations ls)
 
-    answered : PocAnswer → poc.Step
+    answered : Result PocVal Refusal → poc.Step
     answered a = record { call = record { log2 = L; layer = t }; answer = a; after = d.poc }
 
-    pick : {shown : List ℕ} (a : PocAnswer) → shown ≡ map word_of later
+    pick : {shown : List ℕ} (a : Result PocVal Refusal) → shown ≡ map word_of later
         → if_so (is_done (derived_reply 6 a)) (derived_reply 6 a).value ++ shown ≡ map word_of (cond (poc.is_accepted (answered a)) (answered a ∷ later) later)
-    pick (PocAnswer.Derived n) e = ap {B = List ℕ} (λ l. twos_complement n.0 ∷ l) e
-    pick (PocAnswer.Refused why) e = rw (refused-status why) e
+    pick (Ok n) e = ap {B = List ℕ} (λ l. twos_complement n.0 ∷ l) e
+    pick (Err why) e = rw (refused-status why) e
 
 -- ---- every number fits 32 bits
 
@@ -78,11 +78,11 @@ sub_low a b n e = pick (ltb a b) refl e
 
 module _ (c : poc.Call) (r : EvcPoc) where
   -- the number that an answer gives, if any, fits
-  abbrev pub Fits : PocAnswer → Type 0
+  abbrev pub Fits : Result PocVal Refusal → Type 0
   Fits a = mag (number_of (record { call = c; answer = a; after = r })) < 2 ^ 31
 
   abbrev derived_as : ℤ → ℕ → ℕ → Derivation
-  derived_as z prev k = record { answer = PocAnswer.Derived (record { 0 = z }); poc = record_of z prev k }
+  derived_as z prev k = record { answer = Ok (record { 0 = z }); poc = record_of z prev k }
 
   settled-fits : (z : ℤ) (prev k : ℕ) → ((n : ℕ) → z ≡ negsuc n → n < 2 ^ 31) → Fits (settled r z prev k).answer
   settled-fits (pos n) prev k small = pick (ltb max_poc n) refl (ltb max_poc prev)

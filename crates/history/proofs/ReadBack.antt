@@ -1,6 +1,7 @@
 -- What the program prints is read back, since every reply of a run from the new machine fits its line: the buffers and numbers that a whole
 -- state holds do, and so do its counts and a derived number.
 -- Assumes nothing.
+use Rattle.std.specs.Prelude.{Result, Ok, Err}
 use Prim.Native.Nat.{ℕ, ◌^◌, ◌≤◌, ◌<◌}
 use mathlib.Core.Path.{◌≡◌, refl, ap, ◌∙◌, subst}
 use mathlib.Core.Bool.{true, not, ◌&&◌}
@@ -12,12 +13,11 @@ use Rattle.seq.specs.Lists.{lowest}
 use Rattle.seq.proofs.Tests.{and_left}
 use Rattle.seq.proofs.Walks.{lowest-passes, any_found}
 use Rattle.seq.proofs.Members.{mem-at, select-mem}
-use Rattle.def.specs.declared.{Slot.Slot, EvcPm.EvcPm, EvcPoc.EvcPoc, EvcRefP.EvcRefP, PutCall.PutCall, RefpCall.RefpCall}
+use Rattle.def.specs.declared.{PocVal.PocVal, Refusal.Refusal, Slot.Slot, EvcPm.EvcPm, EvcPoc.EvcPoc, EvcRefP.EvcRefP, PutCall.PutCall, RefpCall.RefpCall}
 use Rattle.def.specs.declared.{PmResult.PmResult, RefpResult.RefpResult, Answer.Answer}
 use Rattle.def.specs.State.{slots, list_places, no_slot, is_idle, with_counts}
 use Rattle.def.proofs.Refusals.{refusals-in-use}
 use Rattle.def.proofs.WordLaws.{complement-fits}
-use Rattle.poc.specs.declared.PocAnswer.{PocAnswer}
 use Rattle.poc.specs.PictureNumber.{derive}
 use Rattle.poc.specs.Distance as poc
 use Rattle.whole.specs.Whole.{whole, is_present, buffer_of, leases, places}
@@ -136,10 +136,10 @@ module _ (pm : EvcPm) (w : whole pm ≡ true) where
           let u = whole-rules (with_counts pm (length fwd) (length bwd)) v in
           (u.forward_count, u.backward_count)
 
-number_fits : (c : poc.Call) (r : EvcPoc) (a : PocAnswer) → Fits c r a → ReplyFits (derived_reply 6 a)
-number_fits c r (PocAnswer.Derived n) f =
+number_fits : (c : poc.Call) (r : EvcPoc) (a : Result PocVal Refusal) → Fits c r a → ReplyFits (derived_reply 6 a)
+number_fits c r (Ok n) f =
     record { call = omega arith; status = omega arith; buf = omega arith; value = complement-fits n.0 f }
-number_fits c r (PocAnswer.Refused why) f =
+number_fits c r (Err why) f =
     record { call = omega arith; status = omega (arith, (refusals-in-use why).1); buf = omega arith; value = omega arith }
 
 -- ---- every line's reply

@@ -1,12 +1,13 @@
 -- What holds of every call and every line, from the laws of each call.
 -- Assumes nothing.
+use Rattle.std.specs.Prelude.{Result, Ok, Err}
 use Prim.Native.Nat.{ℕ}
 use native.Mathlib.Omega.{arith}
 use mathlib.Core.Path.{◌≡◌, refl, sym, ap, ◌∙◌}
 use mathlib.Core.Bool.{true, true≢false}
 use mathlib.Core.List.{List}
 use lib.ListN.{length, length-set}
-use Rattle.def.specs.declared.{EvcPm.EvcPm, EvcRefP.EvcRefP, EvcPoc.EvcPoc, PutCall.PutCall, RefpCall.RefpCall, PmResult.PmResult, RefpResult.RefpResult}
+use Rattle.def.specs.declared.{PocVal.PocVal, EvcPm.EvcPm, EvcRefP.EvcRefP, EvcPoc.EvcPoc, PutCall.PutCall, RefpCall.RefpCall, PmResult.PmResult, RefpResult.RefpResult}
 use Rattle.def.specs.declared.Answer.{Answer}
 use Rattle.def.specs.declared.Answer.TheVariants.{Done, Picture, NotYet, NoMore, Counts, Refused}
 use Rattle.def.specs.declared.Refusal.{Refusal}
@@ -14,8 +15,6 @@ use Rattle.def.specs.declared.Refusal.TheVariants.{StateNotWhole}
 use Rattle.def.specs.Refusals.{refusal_number}
 use Rattle.def.proofs.Refusals.{refusals-in-use, numbers-differ}
 use Rattle.def.specs.State.{slots}
-use Rattle.poc.specs.declared.PocAnswer.{PocAnswer}
-use Rattle.poc.specs.declared.PocAnswer.TheVariants as poc
 use Rattle.poc.specs.Why.{Refusing}
 use Rattle.poc.proofs.Why.{derive-why, derive-refused}
 use Rattle.whole.specs.Whole.{whole}
@@ -53,9 +52,9 @@ refused-answer call NoMore t f = absurd (omega (arith, t.1))
 refused-answer call (Counts n m) t f = absurd (omega (arith, t.0))
 refused-answer call (Refused why) t f = f why refl
 
-pub refused-number : {P : Type 0} (a : PocAnswer) → TurnedDown (derived_reply 6 a) → ((why : Refusal) → a ≡ poc.Refused why → P) → P
-refused-number (poc.Derived n) t f = absurd (omega (arith, t.0))
-refused-number (poc.Refused why) t f = f why refl
+pub refused-number : {P : Type 0} (a : Result PocVal Refusal) → TurnedDown (derived_reply 6 a) → ((why : Refusal) → a ≡ Err why → P) → P
+refused-number (Ok n) t f = absurd (omega (arith, t.0))
+refused-number (Err why) t f = f why refl
 
 -- the machine with another state, and with another record
 abbrev with_state : Machine → EvcPm → Machine
@@ -142,9 +141,9 @@ refused-by why call NoMore e = let r = refusals-in-use why in absurd (omega (ari
 refused-by why call (Counts n m) e = let r = refusals-in-use why in absurd (omega (arith, r.0))
 refused-by why call (Refused w) e = ap Refused (numbers-differ w why e)
 
-number-refused-by : (why : Refusal) (a : PocAnswer) → (derived_reply 6 a).status ≡ refusal_number why → a ≡ poc.Refused why
-number-refused-by why (poc.Derived n) e = let r = refusals-in-use why in absurd (omega (arith, r.0))
-number-refused-by why (poc.Refused w) e = ap poc.Refused (numbers-differ w why e)
+number-refused-by : (why : Refusal) (a : Result PocVal Refusal) → (derived_reply 6 a).status ≡ refusal_number why → a ≡ Err why
+number-refused-by why (Ok n) e = let r = refusals-in-use why in absurd (omega (arith, r.0))
+number-refused-by why (Err w) e = ap Err (numbers-differ w why e)
 
 pub call-not-seven : CallNotSeven
 unfolding step

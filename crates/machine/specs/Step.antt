@@ -1,19 +1,17 @@
 -- Section 11 of the specification: what each call does to state, lists and record, and what its answer shows.
 -- Assumes nothing.
-use Rattle.std.specs.Prelude.{ℕ, ◌*◌, ◌/◌, ◌%◌, Bool, false, not, List, eqb, pos, replicate}
+use Rattle.std.specs.Prelude.{ℕ, ◌*◌, ◌/◌, ◌%◌, Bool, false, not, List, eqb, pos, replicate, Result, Ok, Err}
 use Rattle.def.specs.Constants.{slice_type_of}
 use Rattle.def.specs.Refusals.{refusal_number}
 use Rattle.def.specs.State.{list_places, new_pm}
 pub use Rattle.def.specs.Word.{signed_of}
+use Rattle.def.specs.declared.{PocVal.PocVal, Refusal.Refusal}
 use Rattle.def.specs.declared.EvcRefP.{EvcRefP}
 use Rattle.def.specs.declared.PutCall.{PutCall}
 use Rattle.def.specs.declared.RefpCall.{RefpCall}
 use Rattle.def.specs.declared.PmResult.{PmResult}
 use Rattle.def.specs.declared.RefpResult.{RefpResult}
-use Rattle.poc.specs.declared.PocAnswer.{PocAnswer}
-use Rattle.poc.specs.declared.PocAnswer.TheVariants.{Derived, Refused}
-use Rattle.poc.specs.declared.Derivation.{Derivation}
-use Rattle.poc.specs.PictureNumber.{derive, record_of}
+use Rattle.poc.specs.PictureNumber.{Derivation, derive, record_of}
 use Rattle.refp.specs.Lists.{lists}
 use Rattle.picman.specs.Get.{get}
 use Rattle.picman.specs.Put.{put}
@@ -72,9 +70,9 @@ on_state call m r = stepped (reply_of call r.answer) (record { pm = r.pm; refp =
 abbrev pub on_lists : ℕ → Machine → RefpResult → Stepped
 on_lists call m r = stepped (reply_of call r.answer) (record { pm = r.pm; refp = r.refp; poc = m.poc })
 
-abbrev pub derived_reply : ℕ → PocAnswer → Reply
-derived_reply call (Derived n) = reply call 0 no_buffer (twos_complement n.0)
-derived_reply call (Refused why) = reply call (refusal_number why) no_buffer 0
+abbrev pub derived_reply : ℕ → Result PocVal Refusal → Reply
+derived_reply call (Ok n) = reply call 0 no_buffer (twos_complement n.0)
+derived_reply call (Err why) = reply call (refusal_number why) no_buffer 0
 
 abbrev pub on_record : ℕ → Machine → Derivation → Stepped
 on_record call m d = stepped (derived_reply call d.answer) (record { pm = m.pm; refp = m.refp; poc = d.poc })

@@ -2,9 +2,8 @@
 ghost use Rattle.std.specs.Prelude.{◌≡◌, ◌<◌};
 ghost use Rattle.machine.specs.Step.{flag, put_call_of, refp_call_of, derived_reply};
 
-use def::{PutCall, RefpCall, SliceType};
+use def::{PocVal, PutCall, RefpCall, Refusal, SliceType};
 use line::{NO_BUFFER, POC_DERIVATION, Reply};
-use poc::PocAnswer;
 
 // Whether flags have the bit of a weight.
 fn flag(flags: u8, weight: u8) -> bool
@@ -50,17 +49,17 @@ pub fn refp_call_of(
 
 // The fields of the answer to a derivation.
 #[tactic(auto, using(def::proofs::WordLaws::cast_unsigned_is))]
-pub fn derived_reply(answer: PocAnswer) -> Reply
+pub fn derived_reply(answer: Result<PocVal, Refusal>) -> Reply
     ensures { result ≡ derived_reply 6 answer }
 {
     match answer {
-        PocAnswer::Derived(number) => Reply {
+        Ok(number) => Reply {
             call: POC_DERIVATION,
             status: 0,
             buf: NO_BUFFER,
             value: number.0.cast_unsigned(),
         },
-        PocAnswer::Refused(why) => Reply {
+        Err(why) => Reply {
             call: POC_DERIVATION,
             status: u8::from(why),
             buf: NO_BUFFER,

@@ -19,8 +19,10 @@ const MAX_LOG2_IN_TABLE: u8 = 8;
 fn expected_tid(doc_offset: u32) -> u8
     ensures { result ≡ expected_temporal_id doc_offset }
 {
-    (32 - u32::leading_zeros(doc_offset)) as u8
+    (u32::BITS - doc_offset.leading_zeros()) as u8
 }
+
+// L and the layer are single numbers, as in the Rust and at the C interface; `Searched` and `OfLayer` say in a word what holds of them.
 
 // The first offset of layer `tid` from `doc_offset` on, in the order of decoding, which wraps. A layer's offsets are
 // those from 2^(tid-1) to 2^tid - 1, so it is `doc_offset` or else the layer's first, whatever the length.

@@ -7,17 +7,18 @@ use mathlib.Core.List.{List}
 use lib.Dec.{eqb}
 use Rattle.def.specs.Refusals.{refusal_number}
 use Rattle.def.specs.declared.{EvcPoc.EvcPoc, Refusal.Refusal}
-use Rattle.gop.specs.declared.{PlanAnswer.PlanAnswer, Planning.Planning}
-use Rattle.gop.specs.Plan.{plan}
+use Rattle.std.specs.Prelude.{Result, Ok, Err}
+use Rattle.gop.specs.declared.PicturePlan.{PicturePlan}
+use Rattle.gop.specs.Plan.{Planning, plan}
 use Rattle.words.specs.Words.{poc_at}
 use Rattle.planning.specs.Planned.{PlanLeft, plan_left, shown_plan, shown_planning, is_plan_call, plan_called, PlanKept}
 
 abbrev Kept : List ℕ → List ℕ → PlanLeft → Type 0
 Kept bs ps x = 1 ≤ x.given → (x.record_bytes ≡ bs) × (x.plan_bytes ≡ ps)
 
-shown-kept : (a : PlanAnswer) (r : EvcPoc) (bs ps : List ℕ) → Kept bs ps (shown_plan a r bs ps)
-shown-kept (PlanAnswer.Planned p) r bs ps h = absurd (omega arith)
-shown-kept (PlanAnswer.Refused why) r bs ps h = (refl, refl)
+shown-kept : (a : Result PicturePlan Refusal) (r : EvcPoc) (bs ps : List ℕ) → Kept bs ps (shown_plan a r bs ps)
+shown-kept (Ok p) r bs ps h = absurd (omega arith)
+shown-kept (Err why) r bs ps h = (refl, refl)
 
 tested-kept : (b : Bool) (x : Planning) (bs ps : List ℕ) → Kept bs ps (cond b (shown_planning x bs ps) (plan_left (refusal_number Refusal.BadLine) bs ps))
 tested-kept true x bs ps h = shown-kept x.answer x.poc bs ps h

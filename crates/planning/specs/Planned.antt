@@ -1,11 +1,11 @@
 -- `plan_picture`, and so `picman_plan` of the library: what it gives, and the record and the plan as it leaves them.
 -- Assumes nothing.
-use Rattle.std.specs.Prelude.{ℕ, ◌≤◌, ◌≡◌, Bool, cond, ◌&&◌, List, ◌∷◌, leb, eqb, length}
+use Rattle.std.specs.Prelude.{Result, Ok, Err, ℕ, ◌≤◌, ◌≡◌, Bool, cond, ◌&&◌, List, ◌∷◌, leb, eqb, length}
 use Rattle.def.specs.Refusals.{refusal_number}
 use Rattle.def.specs.Word.{word_bytes, twos_complement}
 use Rattle.def.specs.declared.{EvcPoc.EvcPoc, Refusal.Refusal, SliceType.SliceType}
-use Rattle.gop.specs.declared.{PicturePlan.PicturePlan, PlanAnswer.PlanAnswer, Planning.Planning}
-use Rattle.gop.specs.Plan.{plan}
+use Rattle.gop.specs.declared.PicturePlan.{PicturePlan}
+use Rattle.gop.specs.Plan.{Planning, plan}
 use Rattle.words.specs.Words.{poc_width, flag_byte, poc_bytes, poc_at}
 
 -- The number given, and the two lent buffers.
@@ -32,10 +32,15 @@ abbrev pub plan_bytes : PicturePlan → List ℕ
 plan_bytes p =
     slice_byte p.slice_type ∷ p.slice_depth ∷ flag_byte p.slice_ref_flag ∷ word_bytes (twos_complement p.poc_val.0)
 
+-- The number given: 0, or the refusal's.
+abbrev pub status_of : Result (Unit {0}) Refusal → ℕ
+status_of (Ok u) = 0
+status_of (Err why) = refusal_number why
+
 -- 0 with the record after and the plan; a refusal writes nothing.
-abbrev pub shown_plan : PlanAnswer → EvcPoc → List ℕ → List ℕ → PlanLeft
-shown_plan (PlanAnswer.Planned p) r bs ps = plan_left 0 (poc_bytes r) (plan_bytes p)
-shown_plan (PlanAnswer.Refused why) r bs ps = plan_left (refusal_number why) bs ps
+abbrev pub shown_plan : Result PicturePlan Refusal → EvcPoc → List ℕ → List ℕ → PlanLeft
+shown_plan (Ok p) r bs ps = plan_left 0 (poc_bytes r) (plan_bytes p)
+shown_plan (Err why) r bs ps = plan_left (refusal_number why) bs ps
 
 abbrev pub shown_planning : Planning → List ℕ → List ℕ → PlanLeft
 shown_planning x record_bytes plan_bytes = shown_plan x.answer x.poc record_bytes plan_bytes

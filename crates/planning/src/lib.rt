@@ -4,12 +4,12 @@
 
 ghost use Rattle.std.specs.Prelude.{◌≡◌, length};
 ghost use Rattle.words.specs.Words.{poc_width, poc_bytes};
-ghost use Rattle.planning.specs.Planned.{plan_left, slice_byte, plan_width, plan_bytes, shown_plan, plan_called};
+ghost use Rattle.planning.specs.Planned.{plan_left, slice_byte, plan_width, plan_bytes, status_of, plan_called};
 
 use deciding::decide_normal_gop;
-use def::{DONE, EvcPoc, Refusal, SliceType};
+use def::{DONE, Refusal, SliceType};
 use flags::flag_byte;
-use gop::{PicturePlan, PlanAnswer};
+use gop::PicturePlan;
 use records::{read_poc_at, write_poc_at, write_signed};
 
 const RECORD_LENGTH: usize = 12;
@@ -19,12 +19,7 @@ const PLAN_LENGTH: usize = 7;
 fn slice_byte(slice_type: SliceType) -> u8
     ensures { result ≡ slice_byte slice_type }
 {
-    match slice_type {
-        SliceType::EVC_ST_UNKNOWN => 0,
-        SliceType::EVC_ST_I => 1,
-        SliceType::EVC_ST_P => 2,
-        SliceType::EVC_ST_B => 3,
-    }
+    slice_type as u8
 }
 
 fn write_plan(plan: &mut [u8], picture: PicturePlan)
@@ -39,29 +34,38 @@ fn write_plan(plan: &mut [u8], picture: PicturePlan)
     write_signed(plan, 3, number);
 }
 
-// Writes what was planned, and the record after it.
-fn write_both(poc: &mut [u8], plan: &mut [u8], picture: PicturePlan, after: EvcPoc) -> u8
-    requires { (length poc.old ≡ poc_width) × (length plan.old ≡ plan_width) }
-    ensures { plan_left result poc.new plan.new ≡ plan_left 0 (poc_bytes after) (plan_bytes picture) }
-{
-    write_poc_at(poc, 0, after);
-    write_plan(plan, picture);
-    DONE
-}
-
-fn show_plan(poc: &mut [u8], plan: &mut [u8], answer: PlanAnswer, after: EvcPoc) -> u8
-    requires { (length poc.old ≡ poc_width) × (length plan.old ≡ plan_width) }
-    ensures { plan_left result poc.new plan.new
-        ≡ shown_plan answer after poc.old plan.old }
-{
-    match answer {
-        PlanAnswer::Planned(picture) => write_both(poc, plan, picture, after),
-        PlanAnswer::Refused(why) => u8::from(why),
-    }
-}
-
-// Plans one picture: 0, or the refusal.
+// Plans one picture, and writes the plan and the record after it.
 #[tactic(auto, unfolding(crate::specs::Planned::plan_called))]
+fn plan_on(
+    count: u64,
+    gop_size: u64,
+    interval: u64,
+    inter: u8,
+    hierarchy: u8,
+    poc: &mut [u8],
+    plan: &mut [u8],
+) -> Result<(), Refusal>
+    ensures { plan_left (status_of result) poc.new plan.new
+        ≡ plan_called count gop_size interval inter hierarchy poc.old plan.old }
+{
+    if poc.len() != RECORD_LENGTH || plan.len() != PLAN_LENGTH || 1 < hierarchy {
+        return Err(Refusal::BadLine);
+    }
+    let mut record = read_poc_at(poc, 0);
+    let picture = decide_normal_gop(
+        count,
+        gop_size,
+        interval,
+        inter,
+        hierarchy == 1,
+        &mut record,
+    )?;
+    write_poc_at(poc, 0, record);
+    write_plan(plan, picture);
+    Ok(())
+}
+
+// The same for C: 0, or the refusal. The numbers of a plan come singly, as the C interface gives them.
 pub fn plan_picture(
     count: u64,
     gop_size: u64,
@@ -74,18 +78,8 @@ pub fn plan_picture(
     ensures { plan_left result poc.new plan.new
         ≡ plan_called count gop_size interval inter hierarchy poc.old plan.old }
 {
-    if poc.len() != RECORD_LENGTH {
-        return u8::from(Refusal::BadLine);
+    match plan_on(count, gop_size, interval, inter, hierarchy, poc, plan) {
+        Ok(()) => DONE,
+        Err(why) => u8::from(why),
     }
-    if plan.len() != PLAN_LENGTH {
-        return u8::from(Refusal::BadLine);
-    }
-    if 1 < hierarchy {
-        return u8::from(Refusal::BadLine);
-    }
-    let before = read_poc_at(poc, 0);
-    let planning = decide_normal_gop(count, gop_size, interval, inter, hierarchy == 1, before);
-    let answer = planning.answer;
-    let after = planning.poc;
-    show_plan(poc, plan, answer, after)
 }

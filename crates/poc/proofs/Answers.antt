@@ -1,5 +1,6 @@
 -- Laws of a list of derivations: what an accepted call leaves, that a call turned down leaves the record as it was, and the
 -- accepted ones of a list, call by call. Assumes nothing.
+use Rattle.std.specs.Prelude.{Ok}
 use mathlib.Core.Path.{◌≡◌, refl, sym, ap, ◌∙◌}
 use mathlib.Core.Bool.{Bool, true, false, cond, ◌||◌, true≢false, false≢true}
 use mathlib.Core.List.{List, ◌∷◌}
@@ -9,8 +10,7 @@ use lib.IntN.{ℤ, pos}
 use Rattle.def.specs.declared.EvcPoc.{EvcPoc}
 use Rattle.def.specs.declared.Refusal.{Refusal}
 use Rattle.def.specs.declared.Refusal.TheVariants.{BadLayer, BadRecord, NumberTooHigh}
-use Rattle.poc.specs.declared.PocAnswer.TheVariants.{Derived}
-use Rattle.poc.specs.declared.Derivation.{Derivation}
+use Rattle.poc.specs.PictureNumber.{Derivation}
 use Rattle.poc.specs.PictureNumber.{derive, number, offset_from, record_of, derivation_refused, settled, too_high, max_poc, bad_layer}
 use Rattle.poc.specs.PictureNumber.{bad_record, key_picture, other_picture, next_offset, next_previous}
 use Rattle.poc.specs.Distance.{Call, Step, step, is_accepted, accepted_steps}
@@ -21,7 +21,7 @@ step_of c x = record { call = c; answer = x.answer; after = x.poc }
 
 -- A derivation that gives the number z and leaves the previous number and the offset.
 abbrev pub derived : ℤ → ℕ → ℕ → Derivation
-derived z prev d = record { answer = Derived (record { 0 = z }); poc = record_of z prev d }
+derived z prev d = record { answer = Ok (record { 0 = z }); poc = record_of z prev d }
 
 -- ---- one call
 

@@ -17,7 +17,7 @@ use Rattle.seq.proofs.Tests.{lt-or-ge, count_yes, count_none, count-tail, rising
 use Rattle.seq.proofs.Members.{mem-unmap, holds-tail}
 use Rattle.seq.proofs.Distinct.{Climbing}
 use Rattle.def.specs.declared.EvcPoc.{EvcPoc}
-use Rattle.poc.specs.declared.Derivation.{Derivation}
+use Rattle.poc.specs.PictureNumber.{Derivation}
 use Rattle.poc.specs.PictureNumber.{derive, number, offset_of, offset_from, next_offset, next_previous}
 use Rattle.poc.specs.Distance.{Call, Step, step, is_accepted, accepted_steps, number_of, layer_of, offset_after, LaterCalls, Origin}
 use Rattle.poc.proofs.Offset.{Layer, first_of, offset_from-here, offset_from-else}

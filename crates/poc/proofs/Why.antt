@@ -1,4 +1,5 @@
 -- A derivation by cases, and from them why it is turned down. Assumes nothing.
+use Rattle.std.specs.Prelude.{Err}
 use mathlib.Core.Path.{◌≡◌, refl, sym, subst}
 use mathlib.Core.Bool.{Bool, true, false, cond, not, ◌||◌}
 use mathlib.Core.Logic.{inl, inr}
@@ -12,8 +13,7 @@ use borrow.Author.Tests.{ltb-true, ltb-false, leb-true, leb-false, eqb-true, eqb
 use Rattle.def.specs.declared.EvcPoc.{EvcPoc}
 use Rattle.def.specs.declared.Refusal.{Refusal}
 use Rattle.def.specs.declared.Refusal.TheVariants.{BadLayer, BadRecord, NumberTooHigh}
-use Rattle.poc.specs.declared.PocAnswer.TheVariants.{Refused}
-use Rattle.poc.specs.declared.Derivation.{Derivation}
+use Rattle.poc.specs.PictureNumber.{Derivation}
 use Rattle.poc.specs.PictureNumber.{derive, number, too_high, offset_fits, offset_of, offset_from, bad_record, derivation_refused}
 use Rattle.poc.specs.PictureNumber.{key_picture, other_picture, next_offset, next_previous, max_poc, max_log2, max_doc_offset}
 use Rattle.poc.specs.Domain.{Checked}
@@ -141,13 +141,13 @@ module _ (L t : ℕ) (r : EvcPoc) where
       pick _ e l (negative n) = let z : ◌≡◌ {A = ℕ} 0 1 = cc in omega arith
       pick _ e l (too_large d k) = omega arith
 
-  because : {x : Derivation} {why : Refusal} → Derives L t r x → x.answer ≡ Refused why → Refusing L t r why
+  because : {x : Derivation} {why : Refusal} → Derives L t r x → x.answer ≡ Err why → Refusing L t r why
   because {why = why} (bad-layer b) e = let q : BadLayer ≡ why = cc in subst (Refusing L t r) q (is_bad_layer b)
   because {why = why} (bad-record s l b) e = let q : BadRecord ≡ why = cc in subst (Refusing L t r) q (is_bad_record s l b)
   because {why = why} (high h k) e = let q : NumberTooHigh ≡ why = cc in subst (Refusing L t r) q (is_too_high h k)
   because (gives h f z prev d) e = let z : ◌≡◌ {A = ℕ} 0 1 = cc in absurd (omega arith)
 
-  so : {x : Derivation} {why : Refusal} → Derives L t r x → Refusing L t r why → x.answer ≡ Refused why
+  so : {x : Derivation} {why : Refusal} → Derives L t r x → Refusing L t r why → x.answer ≡ Err why
   so (bad-layer b) (is_bad_layer c) = refl
   so (bad-layer b) (is_bad_record s l c) = absurd (layer-good s l b)
   so (bad-layer b) (is_too_high h c) = absurd (layer-good h.short h.layer b)
@@ -161,7 +161,7 @@ module _ (L t : ℕ) (r : EvcPoc) where
   so (gives h f z prev d) (is_bad_record s l c) = absurd (record-good h c)
   so (gives h f z prev d) (is_too_high h' c) = absurd (f c)
 
-  keeps : {x : Derivation} {why : Refusal} → Derives L t r x → x.answer ≡ Refused why → x.poc ≡ r
+  keeps : {x : Derivation} {why : Refusal} → Derives L t r x → x.answer ≡ Err why → x.poc ≡ r
   keeps (bad-layer b) e = refl
   keeps (bad-record s l b) e = refl
   keeps (high h b) e = refl

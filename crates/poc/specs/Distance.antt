@@ -1,11 +1,10 @@
 -- The third demand, section 5 of the specification: the numbers of one sub-group never meet.
 -- Assumes nothing.
-use Rattle.std.specs.Prelude.{ℕ, ◌+◌, ◌-◌, ◌^◌, ◌≤◌, ◌<◌, ◌≡◌, Bool, true, false, eqb, ℤ, pos, ◌+ℤ◌, length}
+use Rattle.std.specs.Prelude.{ℕ, ◌+◌, ◌-◌, ◌^◌, ◌≤◌, ◌<◌, ◌≡◌, Bool, true, false, eqb, ℤ, pos, ◌+ℤ◌, length, Result, Ok, Err}
 use mathlib.Core.List.{List, [], ◌∷◌, map, Memᴰ}
 use Rattle.seq.specs.Lists.{count_if, select, Distinct, Once, Rising}
 use Rattle.def.specs.declared.EvcPoc.{EvcPoc}
-use Rattle.poc.specs.declared.PocAnswer.{PocAnswer}
-use Rattle.poc.specs.declared.PocAnswer.TheVariants.{Derived, Refused}
+use Rattle.def.specs.declared.{PocVal.PocVal, Refusal.Refusal}
 use Rattle.poc.specs.PictureNumber.{derive, number, max_log2}
 
 -- One derivation that is asked for: its L, so that the length is 2^L, and its layer. Any bytes.
@@ -16,7 +15,7 @@ pub record Call : Type 0 where
 -- A call, what it answered, and the record as it left it.
 pub record Step : Type 0 where
   pub call : Call
-  pub answer : PocAnswer
+  pub answer : Result PocVal Refusal
   pub after : EvcPoc
 
 abbrev pub step : EvcPoc → Call → Step
@@ -30,9 +29,9 @@ run r (c ∷ cs) = step r c ∷ run (step r c).after cs
 abbrev pub is_accepted : Step → Bool
 is_accepted s = accepts s.answer
   where
-    accepts : PocAnswer → Bool
-    accepts (Derived n) = true
-    accepts (Refused why) = false
+    accepts : Result PocVal Refusal → Bool
+    accepts (Ok n) = true
+    accepts (Err why) = false
 
 -- The accepted ones of a list of derivations.
 unfoldable pub accepted_steps : EvcPoc → List Call → List Step
@@ -43,9 +42,9 @@ accepted_steps r cs = select is_accepted (run r cs)
 abbrev pub number_of : Step → ℤ
 number_of s = shown s.answer
   where
-    shown : PocAnswer → ℤ
-    shown (Derived n) = n.0
-    shown (Refused why) = pos 0
+    shown : Result PocVal Refusal → ℤ
+    shown (Ok n) = n.0
+    shown (Err why) = pos 0
 
 abbrev pub layer_of : Step → ℕ
 layer_of s = s.call.layer
@@ -83,7 +82,7 @@ pub record FirstIsKey (L p : ℕ) (r : EvcPoc) (first : Call) (later : List Call
   pub short : L ≤ max_log2
   pub first_length : first.log2 ≡ L
   pub first_layer : first.layer ≡ 0
-  pub first_number : (step r first).answer ≡ Derived (record { 0 = pos p })
+  pub first_number : (step r first).answer ≡ Ok (record { 0 = pos p })
   pub rest : LaterCalls L (accepted_steps (step r first).after later)
 
 -- n lies strictly between p - 2^L and p: it is p less a distance from 1 to 2^L - 1.

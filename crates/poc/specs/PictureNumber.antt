@@ -1,14 +1,13 @@
 -- Section 5 of the specification: what a call of the derivation, with its L and its layer, makes of the record.
 -- The number of a picture and its decoding offset are kept apart; the number that the record holds on entry is not read.
 -- Assumes nothing.
-use Rattle.std.specs.Prelude.{ℕ, zero, suc, ◌+◌, ◌-◌, ◌*◌, ◌%◌, ◌^◌, Bool, true, false, cond, ◌&&◌, ◌||◌, not, ltb, leb, eqb, ℤ, pos, negsuc}
+use Rattle.std.specs.Prelude.{ℕ, zero, suc, ◌+◌, ◌-◌, ◌*◌, ◌%◌, ◌^◌, Bool, true, false, cond, ◌&&◌, ◌||◌, not, ltb, leb, eqb, ℤ, pos, negsuc, Result, Ok, Err}
 use Rattle.std.proofs.Math.IntN.{sub_ℕ}
 use Rattle.def.specs.Binary.{floor_log2}
 use Rattle.def.specs.declared.EvcPoc.{EvcPoc}
+use Rattle.def.specs.declared.PocVal.{PocVal}
 use Rattle.def.specs.declared.Refusal.{Refusal}
 use Rattle.def.specs.declared.Refusal.TheVariants.{BadLayer, BadRecord, NumberTooHigh}
-use Rattle.poc.specs.declared.PocAnswer.TheVariants.{Derived, Refused}
-use Rattle.poc.specs.declared.Derivation.{Derivation}
 
 -- The highest picture number, and the highest decoding offset that a record may hold.
 abbrev pub max_poc : ℕ
@@ -58,15 +57,20 @@ number prev L t d = sub_ℕ (prev + (2 * (d - 2 ^ (t - 1)) + 1) * 2 ^ (L - t)) (
 abbrev pub record_of : ℤ → ℕ → ℕ → EvcPoc
 record_of z prev d = record { poc_val = record { 0 = z }; prev_poc_val = prev; prev_doc_offset = record { 0 = pos d } }
 
+-- What a derivation answers, the new number or why there is none, with the record for the next one.
+pub record Derivation : Type 0 where
+  pub answer : Result PocVal Refusal
+  pub poc : EvcPoc
+
 -- A call turned down leaves the record as it was.
 abbrev pub derivation_refused : Refusal → EvcPoc → Derivation
-derivation_refused why r = record { answer = Refused why; poc = r }
+derivation_refused why r = record { answer = Err why; poc = r }
 
 -- The new number z, with the previous number and the offset that the record holds from now on; or 6.
 abbrev pub settled : EvcPoc → ℤ → ℕ → ℕ → Derivation
 settled r z prev d =
     cond (too_high z || ltb max_poc prev) (derivation_refused NumberTooHigh r)
-    (record { answer = Derived (record { 0 = z }); poc = record_of z prev d })
+    (record { answer = Ok (record { 0 = z }); poc = record_of z prev d })
 
 -- A picture of layer 0 opens the next sub-group: it lies one length behind the previous number, takes its place, and sets the offset back to 0.
 abbrev pub key_picture : ℕ → EvcPoc → Derivation

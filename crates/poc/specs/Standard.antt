@@ -4,8 +4,7 @@ use Rattle.std.specs.Prelude.{ℕ, zero, suc, ◌+◌, ◌*◌, ◌/◌, ◌%◌
 use Rattle.def.specs.Binary.{floor_log2}
 use Rattle.def.specs.declared.EvcPoc.{EvcPoc}
 use Rattle.def.specs.declared.Refusal.TheVariants.{BadLayer, BadRecord}
-use Rattle.poc.specs.declared.Derivation.{Derivation}
-use Rattle.poc.specs.PictureNumber.{derive, offset_of, bad_layer, bad_record, derivation_refused, settled}
+use Rattle.poc.specs.PictureNumber.{Derivation, derive, offset_of, bad_layer, bad_record, derivation_refused, settled}
 
 -- ExpectedTemporalId is 0 where DocOffset is 0, and 1 + Floor(Log2(DocOffset)) elsewhere.
 unfoldable pub expected_temporal_id : ℕ → ℕ

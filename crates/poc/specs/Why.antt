@@ -1,9 +1,8 @@
 -- Why a derivation is turned down: each number under its condition and under no other, in the order 15, 16, 6.
 -- Assumes nothing.
-use Rattle.std.specs.Prelude.{ℕ, ◌+◌, ◌^◌, ◌≤◌, ◌<◌, ◌≡◌, ◌↔◌, ◌⊎◌, ℤ, pos, negsuc}
+use Rattle.std.specs.Prelude.{ℕ, ◌+◌, ◌^◌, ◌≤◌, ◌<◌, ◌≡◌, ◌↔◌, ◌⊎◌, ℤ, pos, negsuc, Err}
 use Rattle.def.specs.declared.{EvcPoc.EvcPoc, Refusal.Refusal}
 use Rattle.def.specs.declared.Refusal.TheVariants.{BadLayer, BadRecord, NumberTooHigh}
-use Rattle.poc.specs.declared.PocAnswer.TheVariants.{Refused}
 use Rattle.poc.specs.PictureNumber.{derive, next_offset, max_poc, max_log2, max_doc_offset}
 use Rattle.poc.specs.Domain.{Checked}
 
@@ -34,8 +33,8 @@ pub data Refusing (L t : ℕ) (r : EvcPoc) : Refusal → Type 0 where
 
 -- A derivation answers a refusal exactly under that refusal's condition.
 abbrev pub DeriveWhy : Type 0
-DeriveWhy = (L t : ℕ) (r : EvcPoc) (why : Refusal) → ((derive L t r).answer ≡ Refused why) ↔ Refusing L t r why
+DeriveWhy = (L t : ℕ) (r : EvcPoc) (why : Refusal) → ((derive L t r).answer ≡ Err why) ↔ Refusing L t r why
 
 -- A derivation that is turned down leaves the record as it was.
 abbrev pub DeriveRefused : Type 0
-DeriveRefused = (L t : ℕ) (r : EvcPoc) (why : Refusal) → (derive L t r).answer ≡ Refused why → (derive L t r).poc ≡ r
+DeriveRefused = (L t : ℕ) (r : EvcPoc) (why : Refusal) → (derive L t r).answer ≡ Err why → (derive L t r).poc ≡ r

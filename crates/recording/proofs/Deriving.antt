@@ -5,8 +5,7 @@ use mathlib.Core.List.{List}
 use Prim.Native.Nat.{ℕ}
 use Rattle.def.specs.declared.EvcPoc.{EvcPoc}
 use Rattle.keys.specs.Keys.{Sized}
-use Rattle.poc.specs.PictureNumber.{derive}
-use Rattle.poc.specs.declared.Derivation.{Derivation}
+use Rattle.poc.specs.PictureNumber.{Derivation, derive}
 use Rattle.line.specs.declared.{Call.Call, Reply.Reply}
 use Rattle.registers.specs.Registers.{poc_of}
 use Rattle.machine.specs.Step.{derived_reply, step}

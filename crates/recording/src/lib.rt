@@ -13,24 +13,24 @@ ghost use Rattle.answering.specs.Answered.{OnSlices};
 ghost use Rattle.recording.specs.Recorded.{Recorded};
 
 use answering::answer_word;
-use def::word::twos_complement;
 use def::{EvcPoc, is_refusal_number};
-use derivation::poc_derivation;
+use derivation::evc_poc_derivation;
 use line::{Reply, bad_line_reply};
 use machine::fields::derived_reply;
 use registers::poc_of;
 use sizing::is_sized;
 
 // The record's registers; what the others are read as stays.
+#[tactic(auto, using(def::proofs::WordLaws::cast_unsigned_is))]
 fn write_record(registers: &mut [u32], poc: EvcPoc)
     requires { length registers.old ≡ registers_length }
     ensures { Recorded registers.old registers.new poc }
 {
     let number = poc.poc_val.0;
     let offset = poc.prev_doc_offset.0;
-    registers[3] = twos_complement(number);
+    registers[3] = number.cast_unsigned();
     registers[4] = poc.prev_poc_val;
-    registers[5] = twos_complement(offset);
+    registers[5] = offset.cast_unsigned();
 }
 
 // A derivation that is turned down leaves the registers unwritten.
@@ -41,15 +41,13 @@ fn derive_record(registers: &mut [u32], log2_sub_gop_length: u8, tid: u8) -> Rep
         let call = PocDerivation log2_sub_gop_length tid in
         ((keys rows : List ℕ) → Sized keys rows → CallLeaves result call (slices keys rows before) (slices keys rows after)) }
 {
-    let before = poc_of(registers);
-    let derived = poc_derivation(log2_sub_gop_length, tid, before);
-    let answer = derived.answer;
+    let mut poc = poc_of(registers);
+    let answer = evc_poc_derivation(log2_sub_gop_length, tid, &mut poc);
     let reply = derived_reply(answer);
     if is_refusal_number(reply.status) {
         return reply;
     }
-    let after = derived.poc;
-    write_record(registers, after);
+    write_record(registers, poc);
     reply
 }
 

@@ -1,19 +1,18 @@
 -- Both tables are rows for the lengths 2, 4, 8, 12 and 16, the row of length n at n / 4: one law reads an entry of either by its rule.
 -- Assumes nothing.
-use Prim.Native.Nat.{ℕ, ◌+◌, ◌*◌, ◌/◌, ◌%◌, ◌<◌, ◌≤◌}
+use Prim.Native.Nat.{ℕ, ◌+◌, ◌-◌, ◌*◌, ◌/◌, ◌<◌, ◌≤◌}
 use native.Mathlib.Omega.{arith}
 use mathlib.Core.Path.{◌≡◌, refl, sym, ap, ◌∙◌, subst}
 use mathlib.Core.Bool.{Bool, true, false, cond, ◌&&◌, ◌||◌, false≢true}
-use lib.Dec.{eqb}
-use lib.Arith.{digits_div, digits_mod, digits_lt}
+use mathlib.Core.List.{List, []}
+use lib.Dec.{eqb, ltb}
 use lib.ListN.{get_or}
-use borrow.Author.Tests.{eqb-true}
+use borrow.Author.Tests.{eqb-true, ltb-true, ltb-false, lt-ltb, le-ltb}
+use Rattle.std.specs.Prelude.{Ok, Err}
 use Rattle.seq.specs.Lists.{entries}
 use Rattle.seq.proofs.Rows.{entry}
 use Rattle.def.specs.declared.Refusal.TheVariants.{BadLength}
-use Rattle.tbl.specs.declared.SliceDepth.{SliceDepth}
-use Rattle.tbl.specs.declared.SliceDepth.TheVariants.{Depth, Refused}
-use Rattle.tbl.specs.DepthRows.{is_gop_size}
+use Rattle.tbl.specs.DepthRows.{is_gop_size, entry_of}
 
 -- the length that row r is for
 abbrev pub length_at : ℕ → ℕ
@@ -51,32 +50,38 @@ gop =
 abbrev pub in_row : (ℕ → ℕ → Bool) → (ℕ → ℕ → ℕ) → ℕ → ℕ → ℕ
 in_row within rule n j = cond (is_gop_size n && within n j) (rule n j) 255
 
--- Entry i of a table whose rows have w entries.
-abbrev pub row_entry : ℕ → (ℕ → ℕ → Bool) → (ℕ → ℕ → ℕ) → ℕ → ℕ
-row_entry w within rule i = in_row within rule (length_at (i / w)) (i % w)
+-- A table whose rows have w entries.
+abbrev pub table_of : ℕ → (ℕ → ℕ → Bool) → (ℕ → ℕ → ℕ) → List (List ℕ)
+table_of w within rule = entries (λ r. entries (in_row within rule (length_at r)) w) 5
 
 pub depth-at : (w : ℕ) (within : ℕ → ℕ → Bool) (rule : ℕ → ℕ → ℕ) (n j : ℕ) → is_gop_size n ≡ true → j < w → within n j ≡ true
-    → get_or (entries (row_entry w within rule) (5 * w)) (n / 4 * w + j) 0 ≡ rule n j
+    → get_or (get_or (table_of w within rule) (n / 4) []) j 0 ≡ rule n j
 depth-at w within rule n j e h inside =
-    let i = n / 4 * w + j in
     let g : Gop n = gop n e in
     let low : n / 4 < 5 = let k = g.high in omega arith in
-    entry (row_entry w within rule) 0 (5 * w) i (digits_lt low h)
-    ∙ ap (λ (m : ℕ). in_row within rule m (i % w)) (ap length_at (digits_div (n / 4) h) ∙ g.row)
-    ∙ ap (in_row within rule n) (digits_mod (n / 4) h)
+    ap (λ (row : List ℕ). get_or row j 0) (entry (λ r. entries (in_row within rule (length_at r)) w) [] 5 (n / 4) low)
+    ∙ entry (in_row within rule (length_at (n / 4))) 0 w j h
+    ∙ ap (λ (m : ℕ). in_row within rule m j) g.row
     ∙ ap (λ (b : Bool). cond (b && within n j) (rule n j) 255) e
     ∙ ap (λ (b : Bool). cond b (rule n j) 255) inside
 
--- An answer is the depth where the row has the position, and 17 elsewhere.
-abbrev pub shown : Bool → ℕ → SliceDepth
-shown b d = cond b (Depth d) (Refused BadLength)
+-- the last place but one, told by either test
+pub before-last : (j n : ℕ) → ltb j (n - 1) ≡ ltb (j + 1) n
+before-last j n = go (ltb (j + 1) n) refl
+  where
+    go : (b : Bool) → ltb (j + 1) n ≡ b → ltb j (n - 1) ≡ b
+    go true i = let l : j + 1 < n = ltb-true (j + 1) n i in lt-ltb j (n - 1) (omega arith)
+    go false i = let l : n ≤ j + 1 = ltb-false (j + 1) n i in le-ltb j (n - 1) (omega arith)
 
-pub shown-depth : (a b : Bool) (x d : ℕ) → a ≡ true → b ≡ true → x ≡ d → Depth x ≡ shown (a && b) d
-shown-depth a b x d p q e = ap Depth e ∙ sym (ap (λ (t : Bool). shown (t && b) d) p ∙ ap (λ (t : Bool). shown t d) q)
-
-pub no_length : (a b : Bool) (d : ℕ) → a ≡ false → Refused BadLength ≡ shown (a && b) d
-no_length a b d p = sym (rw p)
-
-pub no-position : (a b : Bool) (d : ℕ) → b ≡ false → Refused BadLength ≡ shown (a && b) d
-no-position true b d q = sym (rw q)
-no-position false b d q = refl
+-- The answer is the rule's depth where the row has the position, and 17 elsewhere.
+pub answer-is : (w : ℕ) (within : ℕ → ℕ → Bool) (rule : ℕ → ℕ → ℕ) (n places j : ℕ) → is_gop_size n ≡ true → places ≤ w
+    → ltb j places ≡ within n j
+    → entry_of (table_of w within rule) n places j ≡ cond (is_gop_size n && within n j) (Ok (rule n j)) (Err BadLength)
+answer-is w within rule n places j e fits same = rw e (go (within n j) refl)
+  where
+    go : (b : Bool) → within n j ≡ b → entry_of (table_of w within rule) n places j ≡ cond b (Ok (rule n j)) (Err BadLength)
+    go true i =
+        let t : ltb j places ≡ true = same ∙ i in
+        let l : j < places = ltb-true j places t in
+        rw t (ap Ok (depth-at w within rule n j e (omega arith) i))
+    go false i = let t : ltb j places ≡ false = same ∙ i in rw t

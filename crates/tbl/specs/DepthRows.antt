@@ -1,11 +1,10 @@
 -- Section 4 of the specification: the depth at each position of a group of 2^k pictures, k from 1 to 4.
 -- Assumes nothing.
-use Rattle.std.specs.Prelude.{ℕ, ◌+◌, ◌-◌, Bool, cond, ◌&&◌, ◌||◌, ltb, eqb}
+use Rattle.std.specs.Prelude.{ℕ, ◌+◌, ◌-◌, ◌/◌, Bool, cond, ◌&&◌, ◌||◌, ltb, eqb, List, [], get_or, Result, Ok, Err}
 use Rattle.std.specs.Int.Count.{count_trailing_zeros}
 use Rattle.def.specs.Binary.{floor_log2}
+use Rattle.def.specs.declared.Refusal.{Refusal}
 use Rattle.def.specs.declared.Refusal.TheVariants.{BadLength}
-use Rattle.tbl.specs.declared.SliceDepth.{SliceDepth}
-use Rattle.tbl.specs.declared.SliceDepth.TheVariants.{Depth, Refused}
 
 -- A group's length is 2, 4, 8 or 16.
 abbrev pub is_gop_size : ℕ → Bool
@@ -22,10 +21,14 @@ unfolding floor_log2 count_trailing_zeros
 depth_rule_p n j = 1 + floor_log2 n - count_trailing_zeros 64 (j + 1)
 
 -- 17: the length is none of the four, or the position is outside the row.
-unfoldable pub slice_depth : ℕ → ℕ → SliceDepth
+unfoldable pub slice_depth : ℕ → ℕ → Result ℕ Refusal
 unfolding depth_rule
-slice_depth n j = cond (is_gop_size n && ltb (j + 1) n) (Depth (depth_rule j)) (Refused BadLength)
+slice_depth n j = cond (is_gop_size n && ltb (j + 1) n) (Ok (depth_rule j)) (Err BadLength)
 
-unfoldable pub slice_depth_p : ℕ → ℕ → SliceDepth
+unfoldable pub slice_depth_p : ℕ → ℕ → Result ℕ Refusal
 unfolding depth_rule_p
-slice_depth_p n j = cond (is_gop_size n && ltb j n) (Depth (depth_rule_p n j)) (Refused BadLength)
+slice_depth_p n j = cond (is_gop_size n && ltb j n) (Ok (depth_rule_p n j)) (Err BadLength)
+
+-- Entry j of the row for length n, if it is one of the row's first places.
+abbrev pub entry_of : List (List ℕ) → ℕ → ℕ → ℕ → Result ℕ Refusal
+entry_of table n places j = cond (ltb j places) (Ok (get_or (get_or table (n / 4) []) j 0)) (Err BadLength)

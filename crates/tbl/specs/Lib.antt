@@ -1,1 +1,2 @@
 pub mod DepthRows
+pub mod GopSize

@@ -5,28 +5,20 @@
 
 ghost use Rattle.std.specs.Prelude.{◌≡◌, ◌+◌, ◌≤◌, length};
 ghost use Rattle.seq.specs.Lists.{Stored};
-ghost use Rattle.def.specs.Word.{word, word_bytes};
+ghost use Rattle.def.specs.Word.{word_bytes};
 ghost use Rattle.words.specs.Words.{word_width, word_at};
 
-fn word_of(a: u8, b: u8, c: u8, d: u8) -> u32
-    ensures { result ≡ word a b c d }
-{
-    ((a as u32 * 256 + b as u32) * 256 + c as u32) * 256 + d as u32
-}
-
+#[tactic(auto, unfolding(crate::specs::Words::word_at))]
 pub fn read_word(image: &[u8], at: usize) -> u32
     requires { at + word_width ≤ length image.now }
     ensures { result ≡ word_at image.now at }
 {
-    word_of(image[at], image[at + 1], image[at + 2], image[at + 3])
+    u32::from_be_bytes([image[at], image[at + 1], image[at + 2], image[at + 3]])
 }
 
 pub fn write_word(image: &mut [u8], at: usize, n: u32)
     requires { at + word_width ≤ length image.old }
     ensures { Stored image.old at (word_bytes n) word_width image.new }
 {
-    image[at] = (n / 16777216 % 256) as u8;
-    image[at + 1] = (n / 65536 % 256) as u8;
-    image[at + 2] = (n / 256 % 256) as u8;
-    image[at + 3] = (n % 256) as u8;
+    image[at..at + 4].copy_from_slice(&n.to_be_bytes());
 }

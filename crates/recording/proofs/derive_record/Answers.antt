@@ -1,17 +1,18 @@
 -- `recording::derive_record` meets its contract: the record is read, a number derived, and the record after it written unless it is turned down.
 -- Assumes nothing.
-use mathlib.Core.Path.{sym, ◌∙◌}
+use mathlib.Core.Path.{refl, sym, ap, ◌∙◌}
 use Rattle.def.proofs.Refusals.{in_use, not-in-use}
+use Rattle.machine.specs.Step.{derived_reply}
 use Rattle.recording.proofs.Deriving.{leaves-refused, leaves-made}
 use Rattle.recording.proofs.derive_record.Goals as goal
 
 pub returns-then-is_refusal_number : goal.returns-then-is_refusal_number
 returns-then-is_refusal_number c =
-    leaves-refused _ _ _ c.poc_of-before.ensures c.poc_derivation-derived.ensures c.derived_reply-reply.ensures
+    leaves-refused _ _ _ c.poc_of-poc.ensures refl (c.derived_reply-reply.ensures ∙ ap (derived_reply 6) c.evc_poc_derivation-answer.ensures.answer)
     (in_use c.derived_reply-reply.result.status (sym c.is_refusal_number.ensures ∙ c.if-is_refusal_number.true))
 
 pub returns : goal.returns
 returns c =
-    leaves-made _ _ _ c.poc_of-before.ensures c.poc_derivation-derived.ensures c.derived_reply-reply.ensures
+    leaves-made _ _ _ c.poc_of-poc.ensures refl (c.derived_reply-reply.ensures ∙ ap (derived_reply 6) c.evc_poc_derivation-answer.ensures.answer)
     (not-in-use c.derived_reply-reply.result.status (sym c.is_refusal_number.ensures ∙ c.if-is_refusal_number.false))
-    c.write_record.ensures
+    (rw c.evc_poc_derivation-answer.ensures.left at c.write_record.ensures)

@@ -1,38 +1,25 @@
--- `tbl::slice_depth_p` meets its contract: the table passes its rule's test, and the place read is the one of the row and the position.
--- Assumes nothing.
-use Prim.Native.Nat.{ℕ, ◌<◌}
-use native.Mathlib.Omega.{arith}
-use mathlib.Core.Path.{◌≡◌, sym, ◌∙◌}
+-- `tbl::slice_depth_p` meets its contract: the table is its rule's. Assumes nothing.
+use Prim.Native.Nat.{ℕ}
+use mathlib.Core.Path.{◌≡◌, refl, subst, ◌∙◌}
 use mathlib.Core.Bool.{Bool, true}
 use lib.Dec.{ltb}
 use lib.Count.{count_trailing_zeros}
 use lib.Ieee as Ieee
-use borrow.Author.Tests.{lt-ltb, le-ltb}
 use Rattle.def.specs.Binary.{floor_log2}
 use Rattle.seq.specs.Lists.{entries, entries_from}
 use Rattle.tbl.specs.DepthRows.{is_gop_size, slice_depth_p, depth_rule_p}
-use Rattle.tbl.proofs.Rows.{Gop, gop, depth-at, shown-depth, no_length, no-position}
+use Rattle.tbl.proofs.Rows.{Gop, gop, answer-is}
 use Rattle.tbl.proofs.slice_depth_p.Goals as goal
 
 within : ℕ → ℕ → Bool
 within n j = ltb j n
 
-pub returns-then-not-is_gop_size : goal.returns-then-not-is_gop_size
-unfolding slice_depth_p
-returns-then-not-is_gop_size c = no_length _ _ _ (sym c.is_gop_size.ensures ∙ c.if-not-is_gop_size.true)
-
-pub returns-then-position-gop_size : goal.returns-then-position-gop_size
-unfolding slice_depth_p
-returns-then-position-gop_size c =
-    no-position (is_gop_size c.args.gop_size) _ _
-    (le-ltb c.args.position c.args.gop_size (omega arith))
-
 pub returns : goal.returns
 unfolding slice_depth_p depth_rule_p floor_log2 Ieee.size Ieee.span Ieee.climb count_trailing_zeros entries entries_from within
 returns c =
-    let n = c.args.gop_size in
+    let n = c.in_ok-gop_size.gop_size.pictures in
     let j = c.args.position in
-    let e : is_gop_size n ≡ true = sym c.is_gop_size.ensures ∙ c.if-not-is_gop_size.false in
+    let e : is_gop_size n ≡ true = c.in_ok-gop_size.gop_size.is_size in
     let g : Gop n = gop n e in
-    let h : j < n = omega arith in
-    shown-depth _ _ _ _ e (lt-ltb j n h) (depth-at 16 within depth_rule_p n j e (omega arith) (lt-ltb j n h))
+    subst (λ (m : ℕ). c.depth_in.result ≡ slice_depth_p m j) c.in_ok-gop_size.ensures
+    (c.depth_in.ensures ∙ answer-is 16 within depth_rule_p n n j e g.high refl)

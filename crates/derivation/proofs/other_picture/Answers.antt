@@ -1,4 +1,4 @@
--- `numbering::other_picture` meets its contract: each number of the code is the definition's, step by step.
+-- `derivation::other_picture` meets its contract: each number of the code is the definition's, step by step.
 -- Assumes nothing.
 use borrow.Author.Rules.{rules}
 use mathlib.Core.Path.{◌≡◌, refl, sym, ap, ap₂, ◌∙◌}
@@ -20,8 +20,8 @@ use Rattle.poc.specs.Number.{derived_as}
 use Rattle.poc.proofs.Settled.{settled-fits, sum_is, sum_low, sum-mag}
 use Rattle.poc.proofs.Words.{shifted, power_le, as-signed}
 use Rattle.offsets.proofs.Formula.{stays-below}
-use Rattle.numbering.proofs.other_picture.Goals as goal
-use Rattle.numbering.proofs.other_picture.Goals.{Joined-next-eq0, After-doc_offset_from-doc_offset, After-poc_offset, then-next-eq0, else-next-eq0}
+use Rattle.derivation.proofs.other_picture.Goals as goal
+use Rattle.derivation.proofs.other_picture.Goals.{Joined-next-eq0, After-doc_offset_from-prev_doc_offset, After-poc_offset, then-next-eq0, else-next-eq0}
 
 -- ---- over the definitions
 -- the offset that the search starts from, as the machine has it
@@ -67,46 +67,46 @@ module _ {L t : ℕ} {r : EvcPoc} (h : Checked L t r) where
         record { sfits = sum-mag (next_previous L r) _ (2 ^ L) (stays-below (found-layer low)) 2147483648 (omega arith) (omega arith) }
 
 -- where the arms meet, previous is as the definition has it
-previous-is : (c : Joined-next-eq0) → c.if-next-eq0.prev ≡ next_previous c.args.log2_sub_gop_length c.args.poc
+previous-is : (c : Joined-next-eq0) → c.if-next-eq0.prev_poc_val ≡ next_previous c.args.log2_sub_gop_length c.args.poc
 previous-is c =
     let h = c.requires.1 in
     elim c.if-next-eq0.branch [
-      | then-next-eq0 w ↦ w.prev-is ∙ rw (shifted _ h.short, eq-eqb _ 0 (sym (next-is h) ∙ w.if-next-eq0.true))
-      | else-next-eq0 w ↦ w.prev-is ∙ rw (ne_eqb _ 0 (λ e. w.if-next-eq0.false (next-is h ∙ e)))
+      | then-next-eq0 w ↦ w.prev_poc_val-is ∙ rw (shifted _ h.short, eq-eqb _ 0 (sym (next-is h) ∙ w.if-next-eq0.true))
+      | else-next-eq0 w ↦ w.prev_poc_val-is ∙ rw (ne_eqb _ 0 (λ e. w.if-next-eq0.false (next-is h ∙ e)))
     ]
 
 -- the search's result
-found-is : (c : After-doc_offset_from-doc_offset)
-    → c.doc_offset_from-doc_offset.result.0 ≡ pos (found c.args.log2_sub_gop_length c.args.tid c.args.poc)
+found-is : (c : After-doc_offset_from-prev_doc_offset)
+    → c.doc_offset_from-prev_doc_offset.result.0 ≡ pos (found c.args.log2_sub_gop_length c.args.tid c.args.poc)
 found-is c =
-    c.doc_offset_from-doc_offset.ensures
+    c.doc_offset_from-prev_doc_offset.ensures
     ∙ ap (λ (z : ℤ). pos (offset_from c.args.log2_sub_gop_length c.args.tid (offset_of z))) (next-signed c.requires.1)
 
 pub poc_offset-requires : goal.poc_offset-requires
 poc_offset-requires c =
     let p = c.requires in
-    rw (found-is (goal.at.poc_offset-requires c).After-doc_offset_from-doc_offset) (found-layer p.1 p.0)
+    rw (found-is (goal.at.poc_offset-requires c).After-doc_offset_from-prev_doc_offset) (found-layer p.1 p.0)
 
 -- previous, which is not too high, and the signed offset, as the machine adds them
 record Summed (L t : ℕ) (r : EvcPoc) (prev : ℕ) (offset : ℤ) : Type 0 where
   fits : next_previous L r ≤ max_poc
   is : to_z w32 prev +ℤ to_z w32 (of_z w32 offset) ≡ number (next_previous L r) L t (found L t r)
 
-sum : (c : After-poc_offset) → Summed c.args.log2_sub_gop_length c.args.tid c.args.poc c.if-next-eq0.prev c.poc_offset.result
+sum : (c : After-poc_offset) → Summed c.args.log2_sub_gop_length c.args.tid c.args.poc c.if-next-eq0.prev_poc_val c.poc_offset.result
 sum c =
     let g = goal.at.overflow_add-number c in
     let L = c.args.log2_sub_gop_length in
     let t = c.args.tid in
     let r = c.args.poc in
     let p = c.requires in
-    let fits : next_previous L r ≤ max_poc = rw (previous-is g.Joined-next-eq0) at c.if-prev-gt-MAX_POC.false in
+    let fits : next_previous L r ≤ max_poc = rw (previous-is g.Joined-next-eq0) at c.if-prev_poc_val-gt-MAX_POC.false in
     let read : to_z w32 (of_z w32 c.poc_offset.result) ≡ c.poc_offset.result = search rules in
     record {
       fits = fits;
       is =
           ap₂ (λ (x y : ℤ). x +ℤ y)
           (ap (to_z w32) (previous-is g.Joined-next-eq0) ∙ to_z_pos w32 _ (omega arith))
-          (read ∙ c.poc_offset.ensures ∙ ap (λ (z : ℤ). signed_offset L t (offset_of z)) (found-is g.After-doc_offset_from-doc_offset))
+          (read ∙ c.poc_offset.ensures ∙ ap (λ (z : ℤ). signed_offset L t (offset_of z)) (found-is g.After-doc_offset_from-prev_doc_offset))
           ∙ number_is p.1 p.0 fits;
     }
 
@@ -122,9 +122,8 @@ returns c =
     let p = c.requires in
     let s = sum g.After-poc_offset in
     let is_number = ap (λ (z : ℤ). to_z w32 (of_z w32 z)) s.is ∙ to_z-of_z w32 _ (number_fits p.1 p.0 s.fits) in
-    c.derived_as.ensures
-    ∙ ap₂ (λ (z : ℤ) (prev : ℕ). derived_as (record { 0 = z }) prev c.doc_offset_from-doc_offset.result) is_number
+    ap₂ (λ (z : ℤ) (prev : ℕ). derived_as (record { 0 = z }) prev c.doc_offset_from-prev_doc_offset.result) is_number
     (previous-is g.Joined-next-eq0)
     ∙ ap (λ (w : ℤ). derived_as (record { 0 = number (next_previous L r) L t (found L t r) }) (next_previous L r) (record { 0 = w }))
-    (found-is g.After-doc_offset_from-doc_offset)
+    (found-is g.After-doc_offset_from-prev_doc_offset)
     ∙ sym (settled-fits r (number (next_previous L r) L t (found L t r)) (next_previous L r) (found L t r) (number-low p.1 p.0 s.fits) s.fits)
