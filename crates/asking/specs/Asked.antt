@@ -1,10 +1,11 @@
 -- What is made of a line of commands: the line of a call, a message that says what was expected, or nothing.
 -- Assumes nothing.
-use Rattle.std.specs.Prelude.{ℕ, ◌≤◌, cond, List, [], ltb, length}
+use Rattle.std.specs.Prelude.{ℕ, cond, List, [], Option, Some, None, Result, Ok, Err, ltb, length}
+use Rattle.arrayvec.specs.ArrayVec.{ArrayVec}
+use Rattle.arrayvec.specs.ArrayString.{ArrayString}
 use Rattle.hex_digits.specs.Hex.{digits_of, sum8}
 use Rattle.framing.specs.Framing.{whole_of}
 use Rattle.line.specs.Calls.{call_bytes}
-use Rattle.phrases.specs.Phrases.{Added}
 use Rattle.concluding.specs.declared.Command.{Command}
 use Rattle.commands.specs.Commands.{read_command}
 use Rattle.expecting.specs.Expected.{expected_words}
@@ -30,9 +31,8 @@ unfoldable pub asked : ℕ → List ℕ → Texts
 unfolding digits_of sum8 read_command expected_words
 asked number line = cond (ltb longest (length line)) (texts [] (expected_words number 13)) (asked_for number (read_command line))
 
--- Two texts stand at the front of two buffers, which are else as they were.
-pub record Wrote (out err : List ℕ) (t : Texts) (m n : ℕ) (out' err' : List ℕ) : Type 0 where
-  pub to_out : Added out 0 t.out m out'
-  pub to_err : Added err 0 t.err n err'
-  pub out_short : m ≤ 128
-  pub err_short : n ≤ 128
+-- What was made of a line, as texts.
+abbrev pub told_texts : Result (Option (ArrayVec ℕ)) ArrayString → Texts
+told_texts (Ok (Some line)) = texts line.items []
+told_texts (Ok None) = texts [] []
+told_texts (Err message) = texts [] message.bytes

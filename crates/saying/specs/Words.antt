@@ -29,7 +29,7 @@ done_words r =
     cond (not (eqb r.buf no_buffer)) (picture_words r.buf r.value)
     (cond (eqb r.call 5) (count_words r.value) (cond (eqb r.call 6) (signed_words r.value) (chars "done")))
 
-abbrev pub status_words : Reply → List ℕ
+unfoldable pub status_words : Reply → List ℕ
 status_words r =
     cond (eqb r.status 0) (done_words r)
     (cond (eqb r.status 64) (chars "not yet") (cond (eqb r.status 65) (chars "no more") (turned_down r.status)))
