@@ -8,9 +8,8 @@ ghost use Rattle.framing.specs.Framing.{whole_of};
 ghost use Rattle.asking.specs.Asked.{told_texts, asked};
 
 use arrayvec::ArrayVec;
-use commands::read_command;
-use concluding::Command;
-use expecting::{SHORTER, complain};
+use commands::{Expected, read_command};
+use expecting::complain;
 use line::Call;
 use phrases::Sentence;
 use writer::{Written, write_call};
@@ -43,11 +42,11 @@ pub fn ask_line(line: &[u8], number: u64) -> Result<Option<CallLine>, Sentence>
     ensures { told_texts result ≡ asked number line.now }
 {
     if LONGEST < line.len() {
-        return Err(complain(number, SHORTER));
+        return Err(complain(number, Expected::ShorterLine));
     }
     match read_command(line) {
-        Command::Nothing => Ok(None),
-        Command::Call(call) => Ok(Some(call_line(call))),
-        Command::Expected(want) => Err(complain(number, want)),
+        Ok(None) => Ok(None),
+        Ok(Some(call)) => Ok(Some(call_line(call))),
+        Err(want) => Err(complain(number, want)),
     }
 }

@@ -4,34 +4,32 @@
 ghost use Rattle.std.specs.Prelude.{◌≡◌, ◌≤◌, length};
 ghost use Rattle.expecting.specs.Expected.{expected_text, expected_words};
 
+use commands::Expected;
 use phrases::{Sentence, push_number};
 
-// Where a line is too long.
-pub const SHORTER: u8 = 13;
-
-// What is expected, by the number of the word that is wanted.
-#[tactic(auto, unfolding(crate::specs::Expected::expected_text))]
-fn expected_text(want: u8) -> &'static str
+fn expected_text(want: Expected) -> &'static str
     ensures text { result.now ≡ expected_text want }
     ensures short { length result.now ≤ 44 }
 {
     match want {
-        0 => "init, get, put, out, lists or derive",
-        1 | 2 | 8 | 11 => "a number from 0 to 255",
-        3 => "I, P, B or a number from 0 to 255",
-        4 | 9 => "a number from 0 to 4294967295",
-        5 => "none or a number from 0 to 4294967295",
-        6 => "layer, gap, idr, out, ref or none, each once",
-        7 => "layer, intra or limit, each once",
-        10 => "a number from -2147483648 to 2147483647",
-        12 | 14..=255 => "the end of the line",
-        SHORTER => "at most 1023 characters",
+        Expected::Command => "init, get, put, out, lists or derive",
+        Expected::First | Expected::Second | Expected::Layer | Expected::Limit => {
+            "a number from 0 to 255"
+        }
+        Expected::Slice => "I, P, B or a number from 0 to 255",
+        Expected::Number | Expected::Gap => "a number from 0 to 4294967295",
+        Expected::Picture => "none or a number from 0 to 4294967295",
+        Expected::PutPart => "layer, gap, idr, out, ref or none, each once",
+        Expected::ListPart => "layer, intra or limit, each once",
+        Expected::Intra => "a number from -2147483648 to 2147483647",
+        Expected::End => "the end of the line",
+        Expected::ShorterLine => "at most 1023 characters",
     }
 }
 
 // The message of a line that could not be read, newline last.
 #[tactic(auto, unfolding(crate::specs::Expected::expected_words))]
-pub fn complain(number: u64, want: u8) -> Sentence
+pub fn complain(number: u64, want: Expected) -> Sentence
     ensures { result.bytes ≡ expected_words number want }
 {
     let mut words = Sentence::new();
