@@ -8,9 +8,8 @@ ghost use Rattle.framing.specs.Framing.{whole_of};
 ghost use Rattle.phrases.specs.Phrases.{Added};
 ghost use Rattle.asking.specs.Asked.{Wrote, asked};
 
-use commands::read_command;
-use concluding::Command;
-use expecting::{SHORTER, complain};
+use commands::{Expected, read_command};
+use expecting::complain;
 use line::Call;
 use writer::{Written, write_call};
 
@@ -44,16 +43,16 @@ pub fn ask_line(out: &mut [u8], err: &mut [u8], line: &[u8], number: u64) -> Tol
         Wrote out.old err.old texts result.out result.err out.new err.new }
 {
     if LONGEST < line.len() {
-        let n = complain(err, number, SHORTER);
+        let n = complain(err, number, Expected::ShorterLine);
         return Told { out: 0, err: n };
     }
     match read_command(line) {
-        Command::Nothing => Told { out: 0, err: 0 },
-        Command::Call(call) => Told {
+        Ok(None) => Told { out: 0, err: 0 },
+        Ok(Some(call)) => Told {
             out: write_line(out, call),
             err: 0,
         },
-        Command::Expected(want) => Told {
+        Err(want) => Told {
             out: 0,
             err: complain(err, number, want),
         },

@@ -4,7 +4,8 @@ use Rattle.asking.specs.Asked.{asked_for, asked}
 use lib.ListN.{length}
 use borrow.Author.Tests.{lt-ltb, le-ltb}
 use native.Mathlib.Omega.{arith}
-use mathlib.Core.Path.{refl, sym, ap, ◌∙◌}
+use mathlib.Core.Path.{◌≡◌, refl, sym, ap, ◌∙◌}
+use Rattle.std.specs.Prelude.{None, Some, Ok}
 use Rattle.asking.proofs.ask_line.Goals as goal
 
 pub returns-then-line-gt-LONGEST : goal.returns-then-line-gt-LONGEST
@@ -18,10 +19,11 @@ returns-then-line-gt-LONGEST c =
       err_short = c.complain-n.ensures.short;
     })
 
-pub returns-in-Nothing : goal.returns-in-Nothing
+pub returns-in-Ok-None : goal.returns-in-Ok-None
 unfolding asked
-returns-in-Nothing c =
-    let is = ap (asked_for c.args.number) (sym c.read_command.ensures.is ∙ c.in-Nothing.is) in
+returns-in-Ok-None c =
+    let none : c.read_command.result ≡ Ok None = cc in
+    let is = ap (asked_for c.args.number) (sym c.read_command.ensures.is ∙ none) in
     rw (le-ltb 1023 (length c.args.line.now) c.if-line-gt-LONGEST.false, is)
     (record {
       to_out = record { holds = refl; behind = refl };
@@ -30,10 +32,11 @@ returns-in-Nothing c =
       err_short = omega arith;
     })
 
-pub returns-in-Call : goal.returns-in-Call
+pub returns-in-Ok-Some : goal.returns-in-Ok-Some
 unfolding asked
-returns-in-Call c =
-    let is = ap (asked_for c.args.number) (sym c.read_command.ensures.is ∙ c.in-Call.is) in
+returns-in-Ok-Some c =
+    let some : c.read_command.result ≡ Ok (Some c.in-Ok-Some.call) = cc in
+    let is = ap (asked_for c.args.number) (sym c.read_command.ensures.is ∙ some) in
     rw (le-ltb 1023 (length c.args.line.now) c.if-line-gt-LONGEST.false, is)
     (record {
       to_out = c.write_line.ensures.added;
@@ -42,10 +45,10 @@ returns-in-Call c =
       err_short = omega arith;
     })
 
-pub returns-in-Expected : goal.returns-in-Expected
+pub returns-in-Err : goal.returns-in-Err
 unfolding asked
-returns-in-Expected c =
-    let is = ap (asked_for c.args.number) (sym c.read_command.ensures.is ∙ c.in-Expected.is) in
+returns-in-Err c =
+    let is = ap (asked_for c.args.number) (sym c.read_command.ensures.is ∙ c.in-Err.is) in
     rw (le-ltb 1023 (length c.args.line.now) c.if-line-gt-LONGEST.false, is)
     (record {
       to_out = record { holds = refl; behind = refl };
