@@ -19,8 +19,8 @@ is name word = bytes_eq word (codes name)
 abbrev pub byte_of : List ℕ → Option ℕ
 byte_of = number_to 255
 
-abbrev pub word_of : List ℕ → Option ℕ
-word_of = number_to 4294967295
+abbrev pub number_of : List ℕ → Option ℕ
+number_of = number_to 4294967295
 
 abbrev pub command_word : List ℕ → Option Draft
 command_word w =
@@ -37,7 +37,7 @@ put_of poc none = record { poc = poc; layer = None; gap = None; idr = false; out
 
 -- A picture is its number, or `none`, which is number 0 and the part `none`.
 abbrev pub picture_word : List ℕ → Option PutParts
-picture_word w = cond (is "none" w) (Some (put_of 0 true)) (option_map (λ poc. put_of poc false) (word_of w))
+picture_word w = cond (is "none" w) (Some (put_of 0 true)) (option_map (λ poc. put_of poc false) (number_of w))
 
 -- A slice is I, P, B, or its byte.
 abbrev pub slice_word : List ℕ → Option ℕ
@@ -71,9 +71,9 @@ next (Draft.InitRefs size) w = option_map (Draft.InitEnd size) (byte_of w)
 next Draft.Put w = option_map Draft.PutPart (picture_word w)
 next (Draft.PutPart p) w = put_part p w
 next (Draft.PutLayer p) w = option_map (λ layer. Draft.PutPart (record p { layer = Some layer })) (byte_of w)
-next (Draft.PutGap p) w = option_map (λ gap. Draft.PutPart (record p { gap = Some gap })) (word_of w)
+next (Draft.PutGap p) w = option_map (λ gap. Draft.PutPart (record p { gap = Some gap })) (number_of w)
 next Draft.Lists w = option_map Draft.ListsNumber (slice_word w)
-next (Draft.ListsNumber slice) w = option_map (λ poc. Draft.ListPart (lists_of slice poc)) (word_of w)
+next (Draft.ListsNumber slice) w = option_map (λ poc. Draft.ListPart (lists_of slice poc)) (number_of w)
 next (Draft.ListPart l) w = list_part l w
 next (Draft.ListLayer l) w = option_map (λ layer. Draft.ListPart (record l { layer = Some layer })) (byte_of w)
 next (Draft.ListIntra l) w = option_map (λ intra. Draft.ListPart (record l { intra = Some intra })) (signed_number w)

@@ -2,19 +2,19 @@
 
 ghost use Rattle.std.specs.Prelude.{◌≡◌, ok_or};
 ghost use Rattle.line.specs.Claims.{CallFits};
-ghost use Rattle.commands.specs.Drafts.{command_word, picture_word, slice_word, put_part, list_part, put_of, put_call};
+ghost use Rattle.commands.specs.Drafts.{command_word, picture_word, slice_word, put_part, list_part, put_call};
 ghost use Rattle.commands.specs.Drafts.{list_call, next, expected, step, finished};
 ghost use Rattle.commands.specs.Commands.{CommandFits};
 
 use crate::Expected;
-use crate::numbers::{byte_of, signed_of, word_of};
+use crate::numbers::{byte_of, number_of, signed_of};
 use line::Call;
 
 // The list limit where none is given.
 const USUAL_LIMIT: u8 = 21;
 
 // The parts of a put that were given.
-#[derive(Clone, Copy)]
+#[derive(Clone, Copy, Default)]
 pub struct PutParts {
     pub poc: u32,
     pub layer: Option<u8>,
@@ -26,7 +26,7 @@ pub struct PutParts {
 }
 
 // The parts of a list call that were given.
-#[derive(Clone, Copy)]
+#[derive(Clone, Copy, Default)]
 pub struct ListParts {
     pub slice: u8,
     pub poc: u32,
@@ -78,8 +78,14 @@ fn picture_word(word: &[u8]) -> Option<PutParts>
     ensures { result ≡ picture_word word.now }
 {
     match word {
-        b"none" => Some(PutParts::new(0, true)),
-        _ => Some(PutParts::new(word_of(word)?, false)),
+        b"none" => Some(PutParts {
+            none: true,
+            ..PutParts::default()
+        }),
+        _ => Some(PutParts {
+            poc: number_of(word)?,
+            ..PutParts::default()
+        }),
     }
 }
 
@@ -96,21 +102,6 @@ fn slice_word(word: &[u8]) -> Option<u8>
 }
 
 impl PutParts {
-    // A put of which no part was given but, maybe, `none`.
-    fn new(poc: u32, none: bool) -> PutParts
-        ensures { result ≡ put_of poc none }
-    {
-        PutParts {
-            poc,
-            layer: None,
-            gap: None,
-            idr: false,
-            out: false,
-            reference: false,
-            none,
-        }
-    }
-
     // With one more part, which was not given before.
     fn next(self, word: &[u8]) -> Option<Draft>
         ensures { result ≡ put_part self word.now }
@@ -193,16 +184,14 @@ impl Draft {
                 ..parts
             })),
             Draft::PutGap(parts) => Some(Draft::PutPart(PutParts {
-                gap: Some(word_of(word)?),
+                gap: Some(number_of(word)?),
                 ..parts
             })),
             Draft::Lists => Some(Draft::ListsNumber(slice_word(word)?)),
             Draft::ListsNumber(slice) => Some(Draft::ListPart(ListParts {
                 slice,
-                poc: word_of(word)?,
-                layer: None,
-                intra: None,
-                limit: None,
+                poc: number_of(word)?,
+                ..ListParts::default()
             })),
             Draft::ListPart(parts) => parts.next(word),
             Draft::ListLayer(parts) => Some(Draft::ListPart(ListParts {

@@ -20,20 +20,20 @@ fn text_of(word: &[u8]) -> Option<&str>
 pub fn byte_of(word: &[u8]) -> Option<u8>
     ensures { result ≡ number_to 255 word.now }
 {
-    text_of(word)?.parse().ok()
+    text_of(word)?.parse::<u8>().ok()
 }
 
 // A number of four bytes.
-pub fn word_of(word: &[u8]) -> Option<u32>
+pub fn number_of(word: &[u8]) -> Option<u32>
     ensures { result ≡ number_to 4294967295 word.now }
 {
-    text_of(word)?.parse().ok()
+    text_of(word)?.parse::<u32>().ok()
 }
 
 // A number of four bytes with a sign or without, in two's complement.
 pub fn signed_of(word: &[u8]) -> Option<u32>
     ensures { result ≡ signed_number word.now }
 {
-    let n: i32 = text_of(word)?.parse().ok()?;
+    let n = text_of(word)?.parse::<i32>().ok()?;
     Some(n.cast_unsigned())
 }

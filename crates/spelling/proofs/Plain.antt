@@ -11,7 +11,7 @@ use borrow.Author.Tests.{ne_eqb, ltb-true}
 use Rattle.seq.specs.Lists.{all_of}
 use Rattle.seq.proofs.Tests.{and_left, and_right}
 use Rattle.phrases.specs.Phrases.{decimal_from, decimal}
-use Rattle.tokens.specs.Words.{is_space, is_hash, last_word, words_from}
+use Rattle.commands.specs.Words.{is_space, is_hash, last_word, words_from}
 use Rattle.spelling.specs.Spelling.{spaced}
 
 abbrev pub is_plain : ℕ → Bool

@@ -1,8 +1,8 @@
--- `word_of` meets its contract: what `parse` gives is the number of the word.
+-- `number_of` meets its contract: what `parse` gives is the number of the word.
 -- Assumes nothing.
 use Rattle.std.proofs.Common.{refl, ◌∙◌}
 use Rattle.commands.proofs.Parsed.{unsigned-parsed}
-use Rattle.commands.proofs.numbers.word_of.Goals as goal
+use Rattle.commands.proofs.numbers.number_of.Goals as goal
 
 pub returns : goal.returns
 returns c =
