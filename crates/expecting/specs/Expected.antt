@@ -1,7 +1,7 @@
 -- The message of a line of commands that could not be read.
 -- Assumes nothing.
 use Rattle.std.specs.Prelude.{ℕ, List, ◌++◌}
-use Rattle.phrases.specs.Phrases.{chars, decimal_from, decimal}
+use Rattle.phrases.specs.Phrases.{chars, decimal}
 use Rattle.commands.specs.declared.Expected.{Expected}
 
 abbrev pub expected_text : Expected → List ℕ
@@ -21,5 +21,4 @@ expected_text Expected.End = chars "the end of the line"
 expected_text Expected.ShorterLine = chars "at most 1023 characters"
 
 unfoldable pub expected_words : ℕ → Expected → List ℕ
-unfolding decimal_from
 expected_words number want = chars "line " ++ (decimal number ++ (chars ": expected " ++ (expected_text want ++ chars "\n")))

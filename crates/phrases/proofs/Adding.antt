@@ -1,4 +1,4 @@
--- Texts put one behind the other, and the decimal digits of a number.
+-- Texts put into a buffer, one behind the other.
 -- Assumes nothing.
 use Prim.Native.Nat.{ℕ, zero, suc, ◌+◌, ◌-◌, ◌/◌, ◌%◌, ◌^◌, ◌≤◌, ◌<◌}
 use native.Mathlib.Omega.{arith}
@@ -11,10 +11,8 @@ use lib.ListN.{length, length-append, take, drop}
 use lib.Seq.{sets, sets-eq, length-sets, take_all, paste, drop-drop}
 use borrow.Author.Tests.{lt-ltb, le-ltb}
 use borrow.Rule.Slice.PartMut.{put_mid}
-use Rattle.std.specs.Fmt.{decimal as printed}
-use Rattle.std.proofs.lemmas.Fmt.{decimal_from_appends, length-decimal-le}
 use Rattle.seq.proofs.Stores.{sets-append}
-use Rattle.phrases.specs.Phrases.{Added, decimal_from, decimal}
+use Rattle.phrases.specs.Phrases.{Added}
 
 pub pasted : (bs text : List ℕ) (at : ℕ) → at + length text ≤ length bs → paste bs at text (length text) ≡ sets bs at text
 pasted bs text at h = rw (take_all (length text) text (omega arith)) (sym (sets-eq text bs at h))
@@ -45,17 +43,3 @@ added-front {bs} {after} {text} {n} p h =
     p.holds
     ∙ sets-eq text bs 0 (omega arith)
     ∙ ap (λ (k : ℕ). text ++ drop k bs) (sym b)
-
-pub decimal-fits : (k n : ℕ) → length (decimal_from k n) ≤ k
-unfolding decimal_from
-decimal-fits zero n = omega arith
-decimal-fits (suc k) n = by (ltb n 10) (decimal-fits k (n / 10))
-  where
-    by : (b : Bool.Bool) → length (decimal_from k (n / 10)) ≤ k → length (cond b ((48 + n) ∷ []) (decimal_from k (n / 10) ++ ((48 + n % 10) ∷ []))) ≤ suc k
-    by Bool.true f = omega arith
-    by Bool.false f = let e = length-append (decimal_from k (n / 10)) ((48 + n % 10) ∷ []) in omega arith
-
--- The digits are those that the library prints.
-pub decimal-is : (n : ℕ) → n < 2 ^ 64 → decimal n ≡ printed n
-unfolding decimal_from
-decimal-is n h = decimal_from_appends decimal_from (record { one = λ k m l. rw (lt-ltb m 10 l); more = λ k m l. rw (le-ltb m 10 l) }) 20 n h (length-decimal-le 20 n (omega arith) (omega arith) h)

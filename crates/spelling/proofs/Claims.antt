@@ -92,15 +92,21 @@ flag-sum n h =
 
 -- ---- slices and signed numbers
 
-plain-slice : (slice : ℕ) → Plain (slice_name slice)
+plain-byte : (n : ℕ) → n < 256 → Plain (decimal n)
+plain-byte n h = plain-decimal n (omega arith)
+
+plain-word : (n : ℕ) → n < 2 ^ 32 → Plain (decimal n)
+plain-word n h = plain-decimal n (omega arith)
+
+plain-slice : (slice : ℕ) → slice < 256 → Plain (slice_name slice)
 unfolding all_of
-plain-slice slice = by (eqb slice 1) (eqb slice 2) (eqb slice 3)
+plain-slice slice h = by (eqb slice 1) (eqb slice 2) (eqb slice 3)
   where
     by : (a b c : Bool) → Plain (cond a (chars "I") (cond b (chars "P") (cond c (chars "B") (decimal slice))))
     by true b c = spelled refl
     by false true c = spelled refl
     by false false true = spelled refl
-    by false false false = plain-decimal slice
+    by false false false = plain-byte slice h
 
 number-slice : (slice : ℕ) → slice < 256 → slice_word (decimal slice) ≡ Some slice
 number-slice slice h =
@@ -118,16 +124,16 @@ slice-read slice h = by (eqb slice 1) refl (eqb slice 2) refl (eqb slice 3) refl
     by false e false f true g = rw (eqb-true slice 3 g)
     by false e false f false g = number-slice slice h
 
-signed-plain : (n : ℕ) → Plain (signed_decimal n)
+signed-plain : (n : ℕ) → n < 2 ^ 32 → Plain (signed_decimal n)
 unfolding all_of
-signed-plain n = by (ltb n 2147483648)
+signed-plain n h = by (ltb n 2147483648)
   where
-    minus : (m : ℕ) → Plain (45 ∷ decimal m)
-    minus m = record { first = 45; rest = decimal m; parts = refl; plain = (plain-decimal m).plain }
+    minus : (m : ℕ) → m < 2 ^ 64 → Plain (45 ∷ decimal m)
+    minus m l = record { first = 45; rest = decimal m; parts = refl; plain = (plain-decimal m l).plain }
 
     by : (b : Bool) → Plain (cond b (decimal n) (45 ∷ decimal (4294967296 - n)))
-    by true = plain-decimal n
-    by false = minus (4294967296 - n)
+    by true = plain-word n h
+    by false = minus (4294967296 - n) (omega arith)
 
 -- A number with its sign is read as its two's complement.
 signed-read : (n : ℕ) → n < 2 ^ 32 → signed_number (signed_decimal n) ≡ Some n
@@ -241,22 +247,22 @@ put-finished flags poc layer gap h =
 pub said-is-read : SaidIsRead
 unfolding step_over CallFits all_of
 said-is-read (Init size refs) f =
-    read_as (Init size refs) (more (spelled refl) (more (plain-decimal size) (more (plain-decimal refs) none))) (ap (λ d. and_then d finished) (init-over size refs f))
+    read_as (Init size refs) (more (spelled refl) (more (plain-byte size f.0) (more (plain-byte refs f.1) none))) (ap (λ d. and_then d finished) (init-over size refs f))
 said-is-read GetEmptyPic f = read_as GetEmptyPic (more (spelled refl) none) get-out.0
 said-is-read (PutPic flags poc layer gap) f =
     let names = plain-flags (is_set (flags % 2)) (is_set (flags / 2 % 2)) (is_set (flags / 4 % 2)) (is_set (flags / 8 % 2)) in
     read_as (PutPic flags poc layer gap)
-    (more (spelled refl) (more (plain-decimal poc) (more (spelled refl) (more (plain-decimal layer) (more (spelled refl) (more (plain-decimal gap) names))))))
+    (more (spelled refl) (more (plain-word poc f.1) (more (spelled refl) (more (plain-byte layer f.2) (more (spelled refl) (more (plain-word gap f.3) names))))))
     (ap (λ d. and_then d finished) (put-over flags poc layer gap f) ∙ put-finished flags poc layer gap f.0)
 said-is-read OutPic f = read_as OutPic (more (spelled refl) none) get-out.1
 said-is-read (RefpInit slice poc layer intra limit) f =
     read_as (RefpInit slice poc layer intra limit)
     (more (spelled refl)
-    (more (plain-slice slice) (more (plain-decimal poc) (more (spelled refl) (more (plain-decimal layer)
-    (more (spelled refl) (more (signed-plain intra) (more (spelled refl) (more (plain-decimal limit) none)))))))))
+    (more (plain-slice slice f.0) (more (plain-word poc f.1) (more (spelled refl) (more (plain-byte layer f.2)
+    (more (spelled refl) (more (signed-plain intra f.3) (more (spelled refl) (more (plain-byte limit f.4) none)))))))))
     (ap (λ d. and_then d finished) (lists-over slice poc layer intra limit f))
 said-is-read (PocDerivation length layer) f =
-    read_as (PocDerivation length layer) (more (spelled refl) (more (plain-decimal length) (more (plain-decimal layer) none)))
+    read_as (PocDerivation length layer) (more (spelled refl) (more (plain-byte length f.0) (more (plain-byte layer f.1) none)))
     (ap (λ d. and_then d finished) (derive-over length layer f))
 
 pub short-forms : ShortForms

@@ -18,7 +18,8 @@ use Rattle.std.specs.Option.{option_map}
 use Rattle.std.specs.Str.{all_ascii_digits, bytes_eq}
 use Rattle.std.specs.Char.{is_ascii_digit}
 use Rattle.std.proofs.lemmas.Slice.Eq.{bytes_eq-Decides}
-use Rattle.phrases.specs.Phrases.{decimal_from, decimal}
+use Rattle.std.proofs.lemmas.Fmt.{decimal_by_steps}
+use Rattle.phrases.specs.Phrases.{decimal}
 use Rattle.commands.specs.Numbers.{value_of, number_to, signed_number}
 use Rattle.commands.specs.Drafts.{is}
 
@@ -60,16 +61,8 @@ next-digit word n p =
       value = value-snoc 0 word (48 + n % 10) ∙ omega arith;
     }
 
-digits-read : (k n : ℕ) → n < 10 ^ suc k → DigitsRead (decimal_from (suc k) n) n
-unfolding decimal_from
-digits-read zero n h = rw (lt-ltb n 10 h) (one-digit n h)
-digits-read (suc k) n h =
-    ⊎_elim (λ (l : n < 10). rw (lt-ltb n 10 l) (one-digit n l))
-    (λ (l : 10 ≤ n). rw (le-ltb n 10 l) (next-digit (decimal_from (suc k) (n / 10)) n
-    (digits-read k (n / 10) (let e = pow-suc 10 (suc k) in omega arith)))) (lt-or-ge n 10)
-
 pub read-decimal : (n : ℕ) → n < 2 ^ 32 → DigitsRead (decimal n) n
-read-decimal n h = digits-read 19 n (omega arith)
+read-decimal n h = decimal_by_steps (λ m word. DigitsRead word m) one-digit (λ m word l p. next-digit word m p) n (omega arith)
 
 number-read : (word : List ℕ) (n most : ℕ) → DigitsRead word n → n ≤ most → number_to most word ≡ Some n
 number-read word n most d l = rw (lt-ltb 0 (length word) d.some, d.digits, d.value, le-leb n most l)
