@@ -1,12 +1,12 @@
 -- A call that fits its bytes is written where there is room, and stands then at the front as a text.
 -- Assumes nothing.
-use Prim.Native.Nat.{ℕ, ◌≤◌}
+use Prim.Native.Nat.{ℕ, ◌+◌, ◌≤◌}
 use native.Mathlib.Omega.{arith}
 use mathlib.Core.Path.{◌≡◌, sym, ap, ◌∙◌}
 use mathlib.Core.Bool.{true}
 use mathlib.Core.List.{List, [], ◌∷◌}
-use lib.ListN.{length, length-append}
-use lib.Seq.{paste}
+use lib.ListN.{length, length-append, take, drop}
+use lib.Seq.{paste, sets, sets-eq, take_at}
 use borrow.Author.Tests.{le-ltb}
 use Rattle.def.specs.declared.Refusal.{Refusal}
 use Rattle.hex_digits.specs.Frame.{framed}
@@ -20,7 +20,6 @@ use Rattle.line.specs.Claims.{CallFits}
 use Rattle.line.proofs.Bodies.{calls-lawful}
 use Rattle.writer.specs.declared.Written.{Written}
 use Rattle.writer.specs.Writing.{WrittenOut, written_out, is_some, is_call_body, written}
-use Rattle.phrases.specs.Phrases.{Added}
 use Rattle.phrases.proofs.Adding.{pasted}
 
 size-most : (call : Call) → line_size (call_bytes call) ≤ 27
@@ -38,7 +37,7 @@ is-call : (call : Call) → CallFits call → is_call_body (call_bytes call) ≡
 unfolding call_kind
 is-call call f = ap is_some (calls-lawful.reads call f)
 
-module _ (call : Call) (target : List ℕ) (f : CallFits call) (room : 128 ≤ length target) where
+module _ (call : Call) (target : List ℕ) (f : CallFits call) (room : 27 ≤ length target) where
   abbrev body : List ℕ
   body = call_bytes call
 
@@ -53,19 +52,16 @@ module _ (call : Call) (target : List ℕ) (f : CallFits call) (room : 128 ≤ l
     same : written_out r after ≡ wrote
     same = e ∙ line-written
 
-    pub line-added : (n : ℕ) → r ≡ Written.Line n → Added target 0 (whole_of body) n after × (n ≤ 128)
-    line-added n t =
+    pub line-given : (n : ℕ) → r ≡ Written.Line n → take n after ≡ whole_of body
+    line-given n t =
         let given : r ≡ Written.Line (line_size body) = ap (λ (w : WrittenOut). w.given) same in
         let size : n ≡ line_size body = cc in
         let text : after ≡ paste target 0 (whole_of body) (line_size body) = ap (λ (w : WrittenOut). w.target) same in
         let long = whole-size body in
-        let m = size-most call in (
-          record {
-            holds = text ∙ ap (paste target 0 (whole_of body)) (sym long) ∙ pasted target (whole_of body) 0 (omega arith);
-            behind = omega arith;
-          },
-          omega arith,
-        )
+        let m = size-most call in
+        let front : after ≡ sets target 0 (whole_of body) =
+        text ∙ ap (paste target 0 (whole_of body)) (sym long) ∙ pasted target (whole_of body) 0 (omega arith) in
+        ap (take n) (front ∙ sets-eq (whole_of body) target 0 (omega arith)) ∙ take_at (whole_of body) (drop (0 + length (whole_of body)) target) n (omega arith)
 
     pub line-not-refused : (why : Refusal) → r ≡ Written.Refused why → ⊥
     line-not-refused why t =

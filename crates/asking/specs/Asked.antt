@@ -1,11 +1,13 @@
 -- What is made of a line of commands: the line of a call, a message that says what was expected, or nothing.
 -- Assumes nothing.
-use Rattle.std.specs.Prelude.{ℕ, ◌≤◌, cond, List, [], ltb, length}
+use Rattle.std.specs.Prelude.{ℕ, cond, List, [], Option, Some, None, Result, Ok, Err, ltb, length}
+use Rattle.arrayvec.specs.ArrayVec.{ArrayVec}
+use Rattle.arrayvec.specs.ArrayString.{ArrayString}
 use Rattle.hex_digits.specs.Hex.{digits_of, sum8}
 use Rattle.framing.specs.Framing.{whole_of}
 use Rattle.line.specs.Calls.{call_bytes}
-use Rattle.phrases.specs.Phrases.{Added}
-use Rattle.concluding.specs.declared.Command.{Command}
+use Rattle.line.specs.declared.Call.{Call}
+use Rattle.commands.specs.declared.Expected.{Expected}
 use Rattle.commands.specs.Commands.{read_command}
 use Rattle.expecting.specs.Expected.{expected_words}
 
@@ -17,10 +19,10 @@ pub record Texts : Type 0 where
 abbrev pub texts : List ℕ → List ℕ → Texts
 texts out err = record { out = out; err = err }
 
-abbrev pub asked_for : ℕ → Command → Texts
-asked_for number Command.Nothing = texts [] []
-asked_for number (Command.Call call) = texts (whole_of (call_bytes call)) []
-asked_for number (Command.Expected want) = texts [] (expected_words number want)
+abbrev pub asked_for : ℕ → Result (Option Call) Expected → Texts
+asked_for number (Ok None) = texts [] []
+asked_for number (Ok (Some call)) = texts (whole_of (call_bytes call)) []
+asked_for number (Err want) = texts [] (expected_words number want)
 
 -- A line with its number. One of more than 1,023 characters is bad, whatever they are.
 abbrev pub longest : ℕ
@@ -28,11 +30,10 @@ longest = 1023
 
 unfoldable pub asked : ℕ → List ℕ → Texts
 unfolding digits_of sum8 read_command expected_words
-asked number line = cond (ltb longest (length line)) (texts [] (expected_words number 13)) (asked_for number (read_command line))
+asked number line = cond (ltb longest (length line)) (texts [] (expected_words number Expected.ShorterLine)) (asked_for number (read_command line))
 
--- Two texts stand at the front of two buffers, which are else as they were.
-pub record Wrote (out err : List ℕ) (t : Texts) (m n : ℕ) (out' err' : List ℕ) : Type 0 where
-  pub to_out : Added out 0 t.out m out'
-  pub to_err : Added err 0 t.err n err'
-  pub out_short : m ≤ 128
-  pub err_short : n ≤ 128
+-- What was made of a line, as texts.
+abbrev pub told_texts : Result (Option (ArrayVec ℕ)) ArrayString → Texts
+told_texts (Ok (Some line)) = texts line.items []
+told_texts (Ok None) = texts [] []
+told_texts (Err message) = texts [] message.bytes

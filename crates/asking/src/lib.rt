@@ -1,61 +1,52 @@
 // A line of a command turned into the line of its call, or into a message that says what was expected.
 #![tactic(auto)]
 
-ghost use Rattle.std.specs.Prelude.{◌≤◌, length};
+ghost use Rattle.std.specs.Prelude.{◌≡◌};
 ghost use Rattle.line.specs.Calls.{call_bytes};
 ghost use Rattle.line.specs.Claims.{CallFits};
 ghost use Rattle.framing.specs.Framing.{whole_of};
-ghost use Rattle.phrases.specs.Phrases.{Added};
-ghost use Rattle.asking.specs.Asked.{Wrote, asked};
+ghost use Rattle.asking.specs.Asked.{told_texts, asked};
 
-use commands::read_command;
-use concluding::Command;
-use expecting::{SHORTER, complain};
+use arrayvec::ArrayVec;
+use commands::{Expected, read_command};
+use expecting::complain;
 use line::Call;
+use phrases::Sentence;
 use writer::{Written, write_call};
 
 // How long a line may be.
 pub const LONGEST: usize = 1023;
 
-// How many bytes stand at the front of the output, and of the messages.
-#[derive(Clone, Copy)]
-pub struct Told {
-    pub out: usize,
-    pub err: usize,
-}
+// The line of a call, newline and all, is no longer.
+const MOST: usize = 32;
 
-// The line of a call.
-fn write_line(out: &mut [u8], call: Call) -> usize
-    requires { CallFits call × (128 ≤ length out.old) }
-    ensures added { Added out.old 0 (whole_of (call_bytes call)) result out.new }
-    ensures short { result ≤ 128 }
+pub type CallLine = ArrayVec<u8, MOST>;
+
+fn call_line(call: Call) -> CallLine
+    requires { CallFits call }
+    ensures { result.items ≡ whole_of (call_bytes call) }
 {
-    match write_call(call, out) {
-        Written::Line(n) => n,
-        Written::Refused(_) => 0,
+    let mut bytes = [0; MOST];
+    let written = write_call(call, &mut bytes);
+    let mut line = ArrayVec::from_array_in((), bytes);
+    match written {
+        Written::Line(n) => line.truncate(n),
+        Written::Refused(_) => {}
     }
+    line
 }
 
-// A line with its number, given without its newline: the line of its call at the front of `out`, or a message at the front
-// of `err`.
-pub fn ask_line(out: &mut [u8], err: &mut [u8], line: &[u8], number: u64) -> Told
-    requires { (128 ≤ length out.old) × (128 ≤ length err.old) }
-    ensures { let texts = asked number line.now in
-        Wrote out.old err.old texts result.out result.err out.new err.new }
+// A line with its number, given without its newline: the line of its call, or nothing where it says nothing, or a message.
+#[tactic(auto, unfolding(crate::specs::Asked::asked))]
+pub fn ask_line(line: &[u8], number: u64) -> Result<Option<CallLine>, Sentence>
+    ensures { told_texts result ≡ asked number line.now }
 {
     if LONGEST < line.len() {
-        let n = complain(err, number, SHORTER);
-        return Told { out: 0, err: n };
+        return Err(complain(number, Expected::ShorterLine));
     }
     match read_command(line) {
-        Command::Nothing => Told { out: 0, err: 0 },
-        Command::Call(call) => Told {
-            out: write_line(out, call),
-            err: 0,
-        },
-        Command::Expected(want) => Told {
-            out: 0,
-            err: complain(err, number, want),
-        },
+        Ok(None) => Ok(None),
+        Ok(Some(call)) => Ok(Some(call_line(call))),
+        Err(want) => Err(complain(number, want)),
     }
 }

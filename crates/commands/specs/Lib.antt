@@ -1,2 +1,4 @@
+pub mod Words
+pub mod Numbers
+pub mod Drafts
 pub mod Commands
-pub mod Feeding

@@ -1,111 +1,69 @@
-// Commands: a line of words that stands for a call, `put 5 ref out` for one. The characters go one by one through `feed`, so a line
-// needs no room; what a word means is known when it ends.
+// Commands: a line of words that stands for a call, `put 5 ref out` for one.
 #![tactic(auto)]
 
 ghost use Rattle.std.specs.Prelude.{◌≡◌};
-ghost use Rattle.tokens.specs.Words.{is_space};
-ghost use Rattle.commands.specs.Commands.{read_command};
-ghost use Rattle.commands.specs.Feeding.{end_word, beginning, closed, extended, feed};
-ghost use Rattle.concluding.specs.Concluded.{CommandFits};
+ghost use Rattle.std.specs.List.{before_first, position};
+ghost use Rattle.commands.specs.Words.{is_space, is_hash};
+ghost use Rattle.commands.specs.Commands.{read_command, CommandFits};
 
-use concluding::{Command, finish};
-use drafts::Draft;
-use fitting::step;
-use progress::begun;
-use tokens::{Word, longer, no_word};
+mod draft;
+mod numbers;
 
-// A line of which some characters were read: the words before, the word that is not finished yet, and whether a comment has begun.
-#[derive(Clone, Copy)]
-pub struct Reading {
-    pub draft: Draft,
-    pub word: Word,
-    pub comment: bool,
-}
+use draft::Draft;
+use line::Call;
 
-// The draft when the word that was begun, if any, has ended.
-fn end_word(d: Draft, w: Word) -> Draft
-    ensures { result ≡ end_word d w }
-{
-    if w.code == 1 {
-        return d;
-    }
-    step(d, w)
+// What is expected where a line cannot be read: a word of a kind, the end of the line, or a shorter line.
+#[derive(Clone, Copy, PartialEq, Eq)]
+pub enum Expected {
+    Command,
+    First,
+    Second,
+    Slice,
+    Number,
+    Picture,
+    PutPart,
+    ListPart,
+    Layer,
+    Gap,
+    Intra,
+    Limit,
+    End,
+    ShorterLine,
 }
 
 fn is_space(c: u8) -> bool
     ensures { result ≡ is_space c }
 {
-    (c == b' ') | ((c == b'\t') | (c == b'\r'))
+    matches!(c, b' ' | b'\t' | b'\r')
 }
 
-fn begin() -> Reading
-    ensures { result ≡ beginning }
+fn comment_place(line: &[u8]) -> Option<usize>
+    ensures { result ≡ position is_hash line.now }
 {
-    let draft = begun();
-    let word = no_word();
-    Reading {
-        draft,
-        word,
-        comment: false,
-    }
+    line.iter().position(|c| *c == b'#')
 }
 
-fn close(r: Reading, comment: bool) -> Reading
-    ensures { result ≡ closed r comment }
+// A line up to the `#` that begins its comment.
+fn before_comment(line: &[u8]) -> &[u8]
+    ensures { result.now ≡ before_first is_hash line.now }
 {
-    let before = r.draft;
-    let last = r.word;
-    let draft = end_word(before, last);
-    let word = no_word();
-    Reading {
-        draft,
-        word,
-        comment,
+    match comment_place(line) {
+        Some(end) => &line[..end],
+        None => line,
     }
 }
 
-fn extend(r: Reading, c: u8) -> Reading
-    ensures { result ≡ extended r c }
-{
-    let draft = r.draft;
-    let before = r.word;
-    let word = longer(before, c);
-    Reading {
-        draft,
-        word,
-        comment: false,
-    }
-}
-
-// One more character.
-fn feed(r: Reading, c: u8) -> Reading
-    ensures { result ≡ feed r c }
-{
-    if r.comment {
-        return r;
-    }
-    if c == b'#' {
-        return close(r, true);
-    }
-    if is_space(c) {
-        return close(r, false);
-    }
-    extend(r, c)
-}
-
-// What a line says, its characters given without the newline.
-pub fn read_command(line: &[u8]) -> Command
+// What a line says, its characters given without the newline: nothing, a call, or what was expected in place of the first word that does not
+// fit.
+pub fn read_command(line: &[u8]) -> Result<Option<Call>, Expected>
     ensures is { result ≡ read_command line.now }
     ensures fits { CommandFits result }
 {
-    let mut reading = begin();
-    let mut i = 0;
-    while i < line.len() {
-        let next = feed(reading, line[i]);
-        reading = next;
-        i += 1;
+    let mut draft = Draft::Command;
+    for word in before_comment(line).split(|c| is_space(*c)) {
+        if !word.is_empty() {
+            draft = draft.step(word)?;
+        }
     }
-    let draft = reading.draft;
-    let word = reading.word;
-    finish(end_word(draft, word))
+    draft.finish()
 }

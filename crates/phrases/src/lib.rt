@@ -1,61 +1,34 @@
-// Texts put one behind the other into a lent buffer: given bytes, decimal numbers, and entries of a flat table.
+// Words for people in fixed memory: numbers in decimal behind a text, and a text put into a lent buffer.
 #![tactic(auto)]
 
-ghost use Rattle.std.specs.Prelude.{◌+◌, ◌*◌, ◌^◌, ◌<◌, ◌≤◌, length};
-ghost use Rattle.phrases.specs.Phrases.{Added, decimal, decimal_from, entry_of};
+ghost use Rattle.std.specs.Prelude.{◌≡◌, ◌+◌, ◌≤◌, ◌++◌, length};
+ghost use Rattle.arrayvec.specs.ArrayString.{array_string_len};
+ghost use Rattle.phrases.specs.Phrases.{Added, decimal};
 
-use buffer::paste;
+use arrayvec::ArrayString;
+use itoa::Buffer;
 
-// Most digits of a number of 64 bits.
-const MOST_DIGITS: usize = 20;
+// The words of a part of a line.
+pub type Phrase = ArrayString<60>;
+
+// The words of a whole line, newline and all.
+pub type Sentence = ArrayString<128>;
 
 // Puts a text into the buffer from a place on, and gives the place behind it.
 pub fn add(out: &mut [u8], at: usize, text: &[u8]) -> usize
     requires { at + length text.now ≤ length out.old }
     ensures { Added out.old at text.now result out.new }
 {
-    let n = text.len();
-    paste(out, at, text, n);
-    at + n
+    let end = at + text.len();
+    out[at..end].copy_from_slice(text);
+    end
 }
 
-// A number in decimal, of `most` digits at most.
-fn add_digits(out: &mut [u8], at: usize, n: u64, most: usize) -> usize
-    requires room { at + most ≤ length out.old }
-    requires enough { (0 < most) × (n < 10 ^ most) }
-    ensures added { Added out.old at (decimal_from most n) result out.new }
-    ensures short { result ≤ at + most }
+// Puts a number in decimal behind a text.
+pub fn push_number<const N: usize>(text: &mut ArrayString<N>, n: u64)
+    requires { array_string_len text.old + 20 ≤ N }
+    ensures pushed { text.new.bytes ≡ text.old.bytes ++ decimal n }
+    ensures short { array_string_len text.new ≤ array_string_len text.old + 20 }
 {
-    if n < 10 {
-        return add(out, at, &[b'0' + n as u8]);
-    }
-    let next = add_digits(out, at, n / 10, most - 1);
-    add(out, next, &[b'0' + (n % 10) as u8])
-}
-
-// A number in decimal.
-pub fn add_number(out: &mut [u8], at: usize, n: u64) -> usize
-    requires { at + 20 ≤ length out.old }
-    ensures added { Added out.old at (decimal n) result out.new }
-    ensures short { result ≤ at + 20 }
-{
-    add_digits(out, at, n, MOST_DIGITS)
-}
-
-// An entry of a table whose entries have one width and lengths of their own.
-pub fn add_entry(
-    out: &mut [u8],
-    at: usize,
-    table: &[u8],
-    width: usize,
-    place: usize,
-    len: usize,
-) -> usize
-    requires { (width * place + len ≤ length table.now) × (at + len ≤ length out.old) }
-    ensures added { Added out.old at (entry_of table.now width place len) result out.new }
-    ensures short { result ≤ at + len }
-{
-    let from = width * place;
-    let end = from + len;
-    add(out, at, &table[from..end])
+    text.push_str(Buffer::new().format(n));
 }

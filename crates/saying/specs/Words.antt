@@ -1,7 +1,7 @@
 -- An answer line in words: `put: buffer 3, number 12`, `out: not yet`, `lists: turned down, 9, no references`.
 -- Assumes nothing.
 use Rattle.std.specs.Prelude.{ℕ, cond, not, List, [], ◌∷◌, ◌++◌, ltb, eqb, get_or}
-use Rattle.phrases.specs.Phrases.{chars, decimal_from, decimal}
+use Rattle.phrases.specs.Phrases.{chars, decimal}
 use Rattle.hex_digits.specs.Hex.{bytes_of, sum8}
 use Rattle.hex_digits.specs.Frame.{body_of, from_line}
 use Rattle.line.specs.declared.Reply.{Reply}
@@ -16,7 +16,6 @@ abbrev pub names : List (List ℕ)
 names = chars "line" ∷ chars "init" ∷ chars "get" ∷ chars "put" ∷ chars "out" ∷ chars "lists" ∷ chars "derive" ∷ []
 
 unfoldable pub call_name : ℕ → List ℕ
-unfolding decimal_from
 call_name call = cond (ltb call 7) (get_or names call []) (chars "call " ++ decimal call)
 
 -- What a refusal looks like.
@@ -29,18 +28,17 @@ done_words r =
     cond (not (eqb r.buf no_buffer)) (picture_words r.buf r.value)
     (cond (eqb r.call 5) (count_words r.value) (cond (eqb r.call 6) (signed_words r.value) (chars "done")))
 
-abbrev pub status_words : Reply → List ℕ
+unfoldable pub status_words : Reply → List ℕ
 status_words r =
     cond (eqb r.status 0) (done_words r)
     (cond (eqb r.status 64) (chars "not yet") (cond (eqb r.status 65) (chars "no more") (turned_down r.status)))
 
 unfoldable pub answer_words : Reply → List ℕ
-unfolding decimal_from status_word call_name
+unfolding status_word call_name
 answer_words r = call_name r.call ++ (chars ": " ++ (status_words r ++ chars "\n"))
 
 -- A line that is no answer, with its number.
 unfoldable pub bad_line_words : ℕ → List ℕ
-unfolding decimal_from
 bad_line_words number = chars "bad line " ++ (decimal number ++ chars ": no answer\n")
 
 -- What the program writes for a line, the characters before its newline.

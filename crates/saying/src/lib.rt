@@ -1,125 +1,115 @@
 // Words for answers: an answer line as a person would put it, or that it is none.
 #![tactic(auto)]
 
-ghost use Rattle.std.specs.Prelude.{◌+◌, ◌≤◌, ◌<◌, length};
-ghost use Rattle.phrases.specs.Phrases.{Added};
+ghost use Rattle.std.specs.Prelude.{◌≡◌, ◌≤◌, length};
 ghost use Rattle.saying.specs.Words.{call_name, turned_down, done_words, status_words, answer_words, bad_line_words, said_line};
 
 use answers::{AnswerLine, read_answer};
-use line::{NO_BUFFER, NO_MORE, NOT_YET, POC_DERIVATION, REFP_INIT, Reply};
-use phrases::{add, add_entry, add_number};
-use showing::{add_counts, add_picture, add_signed};
-use wording::add_word;
+use line::{
+    GET_EMPTY_PIC, INIT, NO_BUFFER, NO_MORE, NOT_YET, OUT_PIC, POC_DERIVATION, PUT_PIC, REFP_INIT,
+    Reply,
+};
+use phrases::{Phrase, Sentence, push_number};
+use showing::{count_words, picture_words, signed_words};
+use wording::status_word;
 
-const NAME_WIDTH: usize = 6;
-
-// The calls by their byte; 0 is a line that was no call.
-const NAMES: [u8; 42] = *b"line  init  get   put   out   lists derive";
-
-const NAME_LENGTHS: [usize; 7] = [4, 4, 3, 3, 3, 5, 6];
-
-const CALLS: u8 = 7;
-
-fn add_known_name(out: &mut [u8], at: usize, call: u8) -> usize
-    requires { (at + 6 ≤ length out.old) × (call < 7) }
-    ensures added { Added out.old at (call_name call) result out.new }
-    ensures short { result ≤ at + 6 }
+fn phrase(words: &str) -> Phrase
+    requires { length words.now ≤ 60 }
+    ensures { result.bytes ≡ words.now }
 {
-    let names = NAMES;
-    let lengths = NAME_LENGTHS;
-    let place = call as usize;
-    let len = lengths[place];
-    add_entry(out, at, &names, NAME_WIDTH, place, len)
+    let mut phrase = Phrase::new();
+    phrase.push_str(words);
+    phrase
 }
 
-fn add_name(out: &mut [u8], at: usize, call: u8) -> usize
-    requires { at + 25 ≤ length out.old }
-    ensures added { Added out.old at (call_name call) result out.new }
-    ensures short { result ≤ at + 25 }
+// A call by its byte; 0 is a line that was no call.
+#[tactic(auto, unfolding(crate::specs::Words::call_name))]
+fn call_name(call: u8) -> Phrase
+    ensures { result.bytes ≡ call_name call }
 {
-    if call < CALLS {
-        return add_known_name(out, at, call);
+    match call {
+        0 => phrase("line"),
+        INIT => phrase("init"),
+        GET_EMPTY_PIC => phrase("get"),
+        PUT_PIC => phrase("put"),
+        OUT_PIC => phrase("out"),
+        REFP_INIT => phrase("lists"),
+        POC_DERIVATION => phrase("derive"),
+        other => {
+            let mut name = phrase("call ");
+            push_number(&mut name, u64::from(other));
+            name
+        }
     }
-    let a = add(out, at, b"call ");
-    add_number(out, a, call as u64)
 }
 
-fn add_turned_down(out: &mut [u8], at: usize, status: u8) -> usize
-    requires { at + 60 ≤ length out.old }
-    ensures added { Added out.old at (turned_down status) result out.new }
-    ensures short { result ≤ at + 60 }
+fn turned_down(status: u8) -> Phrase
+    ensures { result.bytes ≡ turned_down status }
 {
-    let a = add(out, at, b"turned down, ");
-    let b = add_number(out, a, status as u64);
-    let c = add(out, b, b", ");
-    add_word(out, c, status)
+    let mut words = phrase("turned down, ");
+    push_number(&mut words, u64::from(status));
+    words.push_str(", ");
+    words.push_str(status_word(status));
+    words
 }
 
 // What an answer to a call that was done shows.
-fn add_done(out: &mut [u8], at: usize, reply: Reply) -> usize
-    requires { at + 60 ≤ length out.old }
-    ensures added { Added out.old at (done_words reply) result out.new }
-    ensures short { result ≤ at + 60 }
+fn done_words(reply: Reply) -> Phrase
+    ensures { result.bytes ≡ done_words reply }
 {
     if reply.buf != NO_BUFFER {
-        return add_picture(out, at, reply.buf, reply.value);
+        return picture_words(reply.buf, reply.value);
     }
-    if reply.call == REFP_INIT {
-        return add_counts(out, at, reply.value);
+    match reply.call {
+        REFP_INIT => count_words(reply.value),
+        POC_DERIVATION => signed_words(reply.value),
+        _ => phrase("done"),
     }
-    if reply.call == POC_DERIVATION {
-        return add_signed(out, at, reply.value);
-    }
-    add(out, at, b"done")
 }
 
-fn add_status(out: &mut [u8], at: usize, reply: Reply) -> usize
-    requires { at + 60 ≤ length out.old }
-    ensures added { Added out.old at (status_words reply) result out.new }
-    ensures short { result ≤ at + 60 }
+#[tactic(auto, unfolding(crate::specs::Words::status_words))]
+fn status_words(reply: Reply) -> Phrase
+    ensures { result.bytes ≡ status_words reply }
 {
-    if reply.status == 0 {
-        return add_done(out, at, reply);
+    match reply.status {
+        0 => done_words(reply),
+        NOT_YET => phrase("not yet"),
+        NO_MORE => phrase("no more"),
+        refused => turned_down(refused),
     }
-    if reply.status == NOT_YET {
-        return add(out, at, b"not yet");
-    }
-    if reply.status == NO_MORE {
-        return add(out, at, b"no more");
-    }
-    add_turned_down(out, at, reply.status)
 }
 
-// The words of an answer, newline last, at the front of a buffer; gives how many bytes they are.
-pub fn say_answer(out: &mut [u8], reply: Reply) -> usize
-    requires { 128 ≤ length out.old }
-    ensures added { Added out.old 0 (answer_words reply) result out.new }
-    ensures short { result ≤ 128 }
+// The words of an answer, newline last.
+#[tactic(auto, unfolding(crate::specs::Words::answer_words))]
+pub fn say_answer(reply: Reply) -> Sentence
+    ensures { result.bytes ≡ answer_words reply }
 {
-    let a = add_name(out, 0, reply.call);
-    let b = add(out, a, b": ");
-    let c = add_status(out, b, reply);
-    add(out, c, b"\n")
+    let mut words = Sentence::new();
+    words.push_str(call_name(reply.call).as_str());
+    words.push_str(": ");
+    words.push_str(status_words(reply).as_str());
+    words.push_str("\n");
+    words
 }
 
-fn say_bad(out: &mut [u8], number: u64) -> usize
-    requires { 128 ≤ length out.old }
-    ensures added { Added out.old 0 (bad_line_words number) result out.new }
-    ensures short { result ≤ 128 }
+#[tactic(auto, unfolding(crate::specs::Words::bad_line_words))]
+fn bad_line_words(number: u64) -> Sentence
+    ensures { result.bytes ≡ bad_line_words number }
 {
-    let a = add(out, 0, b"bad line ");
-    let b = add_number(out, a, number);
-    add(out, b, b": no answer\n")
+    let mut words = Sentence::new();
+    words.push_str("bad line ");
+    push_number(&mut words, number);
+    words.push_str(": no answer\n");
+    words
 }
 
 // The words of a line with its number, given without its newline.
-pub fn say_line(out: &mut [u8], line: &[u8], number: u64) -> usize
-    requires { 128 ≤ length out.old }
-    ensures added { Added out.old 0 (said_line number line.now) result out.new }
-    ensures short { result ≤ 128 }
+#[tactic(auto, unfolding(crate::specs::Words::said_line))]
+pub fn say_line(line: &[u8], number: u64) -> Sentence
+    ensures { result.bytes ≡ said_line number line.now }
 {
     match read_answer(line) {
-        AnswerLine::Good(reply) => say_answer(out, reply),
-        AnswerLine::Bad => say_bad(out, number),
+        AnswerLine::Good(reply) => say_answer(reply),
+        AnswerLine::Bad => bad_line_words(number),
     }
 }

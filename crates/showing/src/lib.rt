@@ -1,47 +1,43 @@
-// What an answer brings, in words: a picture, the counts of the lists, a derived number. Crate `saying` calls these.
+// What an answer brings, in words: a picture, the counts of the lists, a derived number.
 #![tactic(auto)]
 
-ghost use Rattle.std.specs.Prelude.{◌+◌, ◌≤◌, length};
-ghost use Rattle.phrases.specs.Phrases.{Added};
+ghost use Rattle.std.specs.Prelude.{◌≡◌};
 ghost use Rattle.showing.specs.Shown.{picture_words, count_words, signed_words};
 
-use phrases::{add, add_number};
+use phrases::{Phrase, push_number};
 
-const HIGHEST_POSITIVE: u32 = 0x7fff_ffff;
-
-pub fn add_picture(out: &mut [u8], at: usize, buf: u8, value: u32) -> usize
-    requires { at + 60 ≤ length out.old }
-    ensures added { Added out.old at (picture_words buf value) result out.new }
-    ensures short { result ≤ at + 60 }
+pub fn picture_words(buf: u8, value: u32) -> Phrase
+    ensures { result.bytes ≡ picture_words buf value }
 {
-    let a = add(out, at, b"buffer ");
-    let b = add_number(out, a, buf as u64);
-    let c = add(out, b, b", number ");
-    add_number(out, c, value as u64)
+    let mut words = Phrase::new();
+    words.push_str("buffer ");
+    push_number(&mut words, u64::from(buf));
+    words.push_str(", number ");
+    push_number(&mut words, u64::from(value));
+    words
 }
 
-pub fn add_counts(out: &mut [u8], at: usize, value: u32) -> usize
-    requires { at + 60 ≤ length out.old }
-    ensures added { Added out.old at (count_words value) result out.new }
-    ensures short { result ≤ at + 60 }
+pub fn count_words(value: u32) -> Phrase
+    ensures { result.bytes ≡ count_words value }
 {
-    let a = add_number(out, at, (value / 256) as u64);
-    let b = add(out, a, b" forward, ");
-    let c = add_number(out, b, (value % 256) as u64);
-    add(out, c, b" backward")
+    let mut words = Phrase::new();
+    push_number(&mut words, u64::from(value / 256));
+    words.push_str(" forward, ");
+    push_number(&mut words, u64::from(value % 256));
+    words.push_str(" backward");
+    words
 }
 
 // A number in two's complement.
-#[tactic(auto, using(phrases::proofs::Adding::added_then))]
-pub fn add_signed(out: &mut [u8], at: usize, value: u32) -> usize
-    requires { at + 60 ≤ length out.old }
-    ensures added { Added out.old at (signed_words value) result out.new }
-    ensures short { result ≤ at + 60 }
+pub fn signed_words(value: u32) -> Phrase
+    ensures { result.bytes ≡ signed_words value }
 {
-    if value <= HIGHEST_POSITIVE {
-        let a = add(out, at, b"number ");
-        return add_number(out, a, value as u64);
+    let mut words = Phrase::new();
+    words.push_str("number ");
+    let signed = value.cast_signed();
+    if signed < 0 {
+        words.push_str("-");
     }
-    let b = add(out, at, b"number -");
-    add_number(out, b, 4_294_967_296 - value as u64)
+    push_number(&mut words, u64::from(signed.unsigned_abs()));
+    words
 }

@@ -1,6 +1,6 @@
 -- Words without a space or a `#` in them, with a space between, are the words of their line.
 -- Assumes nothing.
-use Prim.Native.Nat.{ℕ, zero, suc, ◌+◌, ◌/◌, ◌%◌, ◌<◌}
+use Prim.Native.Nat.{ℕ, ◌+◌, ◌/◌, ◌%◌, ◌^◌, ◌<◌}
 use native.Mathlib.Omega.{arith}
 use mathlib.Core.Path.{◌≡◌, refl, sym, ap, ◌∙◌}
 use mathlib.Core.Bool.{Bool, true, false, cond, not, ◌&&◌}
@@ -10,8 +10,9 @@ use lib.Dec.{ltb}
 use borrow.Author.Tests.{ne_eqb, ltb-true}
 use Rattle.seq.specs.Lists.{all_of}
 use Rattle.seq.proofs.Tests.{and_left, and_right}
-use Rattle.phrases.specs.Phrases.{decimal_from, decimal}
-use Rattle.tokens.specs.Words.{is_space, is_hash, last_word, words_from}
+use Rattle.std.proofs.lemmas.Fmt.{decimal_by_steps}
+use Rattle.phrases.specs.Phrases.{decimal}
+use Rattle.commands.specs.Words.{is_space, is_hash, last_word, words_from}
 use Rattle.spelling.specs.Spelling.{spaced}
 
 abbrev pub is_plain : ℕ → Bool
@@ -69,26 +70,14 @@ plain-digit d h =
       ne_eqb (48 + d) 13 (λ e. omega arith),
     )
 
-plain-digits : (k n : ℕ) → all_of is_plain (decimal_from k n) ≡ true
-unfolding decimal_from all_of
-plain-digits zero n = refl
-plain-digits (suc k) n = by (ltb n 10) refl (plain-digits k (n / 10))
-  where
-    by : (b : Bool) → ltb n 10 ≡ b → all_of is_plain (decimal_from k (n / 10)) ≡ true
-        → all_of is_plain (cond b ((48 + n) ∷ []) (decimal_from k (n / 10) ++ ((48 + n % 10) ∷ []))) ≡ true
-    by true e p = rw (plain-digit n (ltb-true n 10 e))
-    by false e p = all_append is_plain (decimal_from k (n / 10)) ((48 + n % 10) ∷ []) p (rw (plain-digit (n % 10) (omega arith)))
-
 -- A list that ends with an element begins with one.
 snoc-begins : (xs : List ℕ) (x : ℕ) → all_of is_plain (xs ++ (x ∷ [])) ≡ true → Plain (xs ++ (x ∷ []))
 snoc-begins [] x e = record { first = x; rest = []; parts = refl; plain = e }
 snoc-begins (y ∷ xs) x e = record { first = y; rest = xs ++ (x ∷ []); parts = refl; plain = e }
 
-pub plain-decimal : (n : ℕ) → Plain (decimal n)
-unfolding decimal_from
-plain-decimal n = by (ltb n 10) (plain-digits 20 n)
-  where
-    by : (b : Bool) → all_of is_plain (cond b ((48 + n) ∷ []) (decimal_from 19 (n / 10) ++ ((48 + n % 10) ∷ []))) ≡ true
-        → Plain (cond b ((48 + n) ∷ []) (decimal_from 19 (n / 10) ++ ((48 + n % 10) ∷ [])))
-    by true e = record { first = 48 + n; rest = []; parts = refl; plain = e }
-    by false e = snoc-begins (decimal_from 19 (n / 10)) (48 + n % 10) e
+pub plain-decimal : (n : ℕ) → n < 2 ^ 64 → Plain (decimal n)
+unfolding all_of
+plain-decimal n h =
+    decimal_by_steps (λ m word. Plain word) (λ m l. record { first = 48 + m; rest = []; parts = refl; plain = rw (plain-digit m l) })
+    (λ m word l p. snoc-begins word (48 + m % 10) (all_append is_plain word ((48 + m % 10) ∷ []) p.plain (rw (plain-digit (m % 10) (omega arith)))))
+    n h

@@ -3,7 +3,7 @@
 use Rattle.std.specs.Prelude.{ℕ, ◌-◌, ◌/◌, ◌%◌, Bool, cond, List, [], ◌∷◌, ◌++◌, ltb, eqb}
 use Rattle.line.specs.declared.Call.{Call}
 use Rattle.line.specs.declared.Call.TheVariants.{Init, GetEmptyPic, PutPic, OutPic, RefpInit, PocDerivation}
-use Rattle.phrases.specs.Phrases.{chars, decimal_from, decimal}
+use Rattle.phrases.specs.Phrases.{chars, decimal}
 
 -- A number in two's complement.
 abbrev pub signed_decimal : ℕ → List ℕ
@@ -42,5 +42,4 @@ spaced (w ∷ v ∷ ws) = w ++ (32 ∷ spaced (v ∷ ws))
 
 -- The line of commands for a call.
 unfoldable pub say_command : Call → List ℕ
-unfolding decimal_from
 say_command call = spaced (call_words call)

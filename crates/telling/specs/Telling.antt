@@ -3,11 +3,10 @@
 use Rattle.std.specs.Prelude.{ℕ, ◌+◌, ◌*◌, ◌≤◌, ◌≡◌, cond, List, [], ◌∷◌, ◌++◌, length, take}
 use Rattle.buffer.specs.Buffer.{is_newline}
 use Rattle.phrases.specs.Phrases.{Added}
-use Rattle.asking.specs.declared.Told.{Told}
 use Rattle.asking.specs.Asked.{Texts, texts}
 use Rattle.saying.specs.Words.{said_line}
 use Rattle.spots.specs.declared.Spot.{Spot}
-use Rattle.telling.specs.declared.{Kind.Kind, Spoken.Spoken}
+use Rattle.telling.specs.declared.{Kind.Kind, Told.Told, Spoken.Spoken}
 use Rattle.spots.specs.Spots.{next_number}
 use Rattle.telling.specs.Told.{told, joined}
 
@@ -60,6 +59,13 @@ pub record Keeps (held : List ℕ) (len : ℕ) : Type 0 where
 pub record Kept (held : List ℕ) (len c next : ℕ) (held' : List ℕ) : Type 0 where
   pub line : kept_line held' next ≡ take kept (kept_line held len ++ (c ∷ []))
   pub keeps : Keeps held' next
+
+-- Two texts stand at the front of two buffers, which are else as they were.
+pub record Wrote (out err : List ℕ) (t : Texts) (m n : ℕ) (out' err' : List ℕ) : Type 0 where
+  pub to_out : Added out 0 t.out m out'
+  pub to_err : Added err 0 t.err n err'
+  pub out_short : m ≤ most
+  pub err_short : n ≤ most
 
 -- An answer line's words at the front of the output.
 pub record Ends (out : List ℕ) (number : ℕ) (line : List ℕ) (t : Told) (out' : List ℕ) : Type 0 where

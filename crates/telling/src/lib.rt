@@ -4,11 +4,12 @@
 
 ghost use Rattle.std.specs.Prelude.{◌≤◌, length};
 ghost use Rattle.buffer.specs.Buffer.{newline};
-ghost use Rattle.asking.specs.Asked.{Wrote};
+ghost use Rattle.asking.specs.Asked.{asked};
 ghost use Rattle.telling.specs.Told.{told};
-ghost use Rattle.telling.specs.Telling.{most, Keeps, Kept, Ends, Room, TookByte, PieceRoom, ToldPiece};
+ghost use Rattle.telling.specs.Telling.{most, Wrote, Keeps, Kept, Ends, Room, TookByte, PieceRoom, ToldPiece};
 
-use asking::{LONGEST, Told, ask_line};
+use asking::{LONGEST, ask_line};
+use phrases::add;
 use saying::say_line;
 use spots::{Spot, next_spot};
 
@@ -33,12 +34,36 @@ pub struct Spoken {
     pub err: usize,
 }
 
+// How many bytes a line gives to the output, and to the messages.
+#[derive(Clone, Copy)]
+pub struct Told {
+    pub out: usize,
+    pub err: usize,
+}
+
+fn ask_told(out: &mut [u8], err: &mut [u8], line: &[u8], number: u64) -> Told
+    requires { (most ≤ length out.old) × (most ≤ length err.old) }
+    ensures { Wrote out.old err.old (asked number line.now) result.out result.err out.new err.new }
+{
+    match ask_line(line, number) {
+        Ok(Some(call)) => Told {
+            out: add(out, 0, call.as_slice()),
+            err: 0,
+        },
+        Ok(None) => Told { out: 0, err: 0 },
+        Err(message) => Told {
+            out: 0,
+            err: add(err, 0, message.as_str().as_bytes()),
+        },
+    }
+}
+
 fn say_told(out: &mut [u8], line: &[u8], number: u64) -> Told
     requires { most ≤ length out.old }
     ensures { Ends out.old number line.now result out.new }
 {
     Told {
-        out: say_line(out, line, number),
+        out: add(out, 0, say_line(line, number).as_str().as_bytes()),
         err: 0,
     }
 }
@@ -50,7 +75,7 @@ fn tell_line(kind: Kind, out: &mut [u8], err: &mut [u8], line: &[u8], number: u6
         Wrote out.old err.old texts result.out result.err out.new err.new }
 {
     match kind {
-        Kind::Ask => ask_line(out, err, line, number),
+        Kind::Ask => ask_told(out, err, line, number),
         Kind::Say => say_told(out, line, number),
     }
 }

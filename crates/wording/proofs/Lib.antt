@@ -1,2 +1,1 @@
-mod WordTable
 pub mod Claims

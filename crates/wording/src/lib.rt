@@ -1,61 +1,35 @@
-// The word for the status of an answer, from one table of the refusals' words. Crate `saying` calls `add_word`.
+// The word for the status of an answer: each refusal has one of its own.
 #![tactic(auto)]
 
-ghost use Rattle.std.specs.Prelude.{◌≡◌, ◌+◌, ◌≤◌, ◌<◌, length};
-ghost use Rattle.phrases.specs.Phrases.{Added};
-ghost use Rattle.wording.specs.Words.{word_place, status_word};
+ghost use Rattle.std.specs.Prelude.{◌≡◌, ◌≤◌, length};
+ghost use Rattle.wording.specs.Words.{status_word};
 
-use def::HIGHEST_REFUSAL;
-use phrases::add_entry;
-
-// No status word is longer.
-const WIDTH: usize = 20;
-
-// The words of the refusals by number. What stands first is for a number that no refusal has; 10 and 12 are withdrawn.
-const WORDS: [u8; 420] = *b"\
-    unknown             \
-    size too big        \
-    rack full           \
-    picture still out   \
-    nothing out         \
-    slot taken          \
-    number too high     \
-    torn rack           \
-    too many references \
-    no references       \
-    withdrawn           \
-    forward list empty  \
-    withdrawn           \
-    twin                \
-    no such place       \
-    bad layer           \
-    bad record          \
-    bad length          \
-    bad line            \
-    bad plan            \
-    no room             ";
-
-const WORD_LENGTHS: [usize; 21] = [
-    7, 12, 9, 17, 11, 10, 15, 9, 19, 13, 9, 18, 9, 4, 13, 9, 10, 10, 8, 8, 7,
-];
-
-fn word_place(status: u8) -> usize
-    ensures { (result ≡ word_place status) × (result < 21) }
+// 10 and 12 are withdrawn, and any other number that is none of these no refusal has.
+#[tactic(auto, unfolding(crate::specs::Words::status_word))]
+pub fn status_word(status: u8) -> &'static str
+    ensures word { result.now ≡ status_word status }
+    ensures short { length result.now ≤ 20 }
 {
-    if status <= HIGHEST_REFUSAL {
-        return status as usize;
+    match status {
+        1 => "size too big",
+        2 => "rack full",
+        3 => "picture still out",
+        4 => "nothing out",
+        5 => "slot taken",
+        6 => "number too high",
+        7 => "torn rack",
+        8 => "too many references",
+        9 => "no references",
+        10 | 12 => "withdrawn",
+        11 => "forward list empty",
+        13 => "twin",
+        14 => "no such place",
+        15 => "bad layer",
+        16 => "bad record",
+        17 => "bad length",
+        18 => "bad line",
+        19 => "bad plan",
+        20 => "no room",
+        0 | 21..=255 => "unknown",
     }
-    0
-}
-
-pub fn add_word(out: &mut [u8], at: usize, status: u8) -> usize
-    requires { at + 20 ≤ length out.old }
-    ensures added { Added out.old at (status_word status) result out.new }
-    ensures short { result ≤ at + 20 }
-{
-    let words = WORDS;
-    let lengths = WORD_LENGTHS;
-    let place = word_place(status);
-    let len = lengths[place];
-    add_entry(out, at, &words, WIDTH, place, len)
 }

@@ -1,12 +1,10 @@
-use Prim.Native.Nat.{◌-◌, ◌≤◌}
-use mathlib.Core.Path.{◌≡◌}
-use mathlib.Core.List.{foldl}
-use lib.ListN.{length, drop}
-use Rattle.commands.specs.Feeding.{beginning, feed}
+use Rattle.std.proofs.Common.{◌≡◌, [], length, drop}
+use Rattle.commands.specs.Words.{words_from}
+use Rattle.commands.specs.Commands.{step_over}
+use Rattle.commands.specs.declared.draft.Draft.{Draft}
+use Rattle.commands.proofs.Split.{kept, pieces_of}
 use Rattle.commands.proofs.read_command.Given as goal
 
-abbrev pub invariant-loop-i : goal.invariant-loop-i
-invariant-loop-i l = (l.i ≤ length l.line) × (foldl feed l.reading (drop l.i l.line) ≡ foldl feed beginning l.line)
-
-abbrev pub decreases-loop-i : goal.decreases-loop-i
-decreases-loop-i l = length l.line - l.i
+abbrev pub invariant-loop-word : goal.invariant-loop-word
+invariant-loop-word l =
+    step_over l.draft (kept (drop (length l.yielded) (pieces_of l.line))) ≡ step_over Draft.Command (words_from [] l.line)

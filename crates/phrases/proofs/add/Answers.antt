@@ -1,12 +1,8 @@
--- `phrases::add` meets its contract: a paste of all of a text.
+-- `phrases::add` meets its contract: what stands in the buffer in front of the text and behind it stays.
 -- Assumes nothing.
-use native.Mathlib.Omega.{arith}
-use mathlib.Core.Path.{refl, ◌∙◌}
-use Rattle.phrases.proofs.Adding.{pasted}
+use mathlib.Core.Path.{refl}
+use Rattle.phrases.proofs.Adding.{put-text}
 use Rattle.phrases.proofs.add.Goals as goal
 
 pub returns : goal.returns
-returns c =
-    let put = c in
-    let a = put.args in
-    record { holds = put.paste.ensures ∙ pasted a.out.now a.text.now a.at (omega arith); behind = refl }
+returns c = record { holds = rw c.copy_from_slice.ensures.after (put-text c.args.out.now c.args.text.now c.args.at c.requires); behind = refl }

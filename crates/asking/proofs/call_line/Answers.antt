@@ -1,0 +1,16 @@
+-- `asking::call_line` meets its contract: a call that fits is written, and its line stands at the front.
+-- Assumes nothing.
+use Rattle.std.proofs.Common.{rules}
+use Rattle.asking.proofs.LineWritten.{line-given, line-not-refused}
+use Rattle.asking.proofs.call_line.Goals as goal
+
+pub returns-in-Line : goal.returns-in-Line
+returns-in-Line c =
+    let wrote = c.write_call-written in
+    rw (c.truncate.ensures.items, c.from_array_in-line.ensures.items)
+    (line-given c.args.call _ c.requires (search rules) wrote.result _ wrote.ensures _ c.in-Line.is)
+
+pub returns-in-Refused : goal.returns-in-Refused
+returns-in-Refused c =
+    let wrote = c.write_call-written in
+    absurd (line-not-refused c.args.call _ c.requires (search rules) wrote.result _ wrote.ensures _ c.in-Refused.is)
