@@ -1,9 +1,7 @@
 // All of some bytes written, or a beginning of them where a write fails.
-#![tactic(auto)]
-
 ghost use Rattle.std.specs.Prelude.{OnOk, OnErr};
 ghost use Rattle.std.specs.Io.KnownBytes.{Appends};
-ghost use Rattle.pouring.specs.Pouring.{AppendsFront, FallsShort};
+ghost use Rattle.conversation.specs.Pouring.{AppendsFront, FallsShort};
 
 use std::io::{self, ErrorKind, Write};
 

@@ -1,7 +1,7 @@
 -- What has been written so far.
 use Rattle.std.proofs.Common.{◌≤◌, length, take}
 use Rattle.std.specs.Io.KnownBytes.{Appends}
-use Rattle.pouring.proofs.write_whole.Given as goal
+use Rattle.conversation.proofs.pouring.write_whole.Given as goal
 
 abbrev pub invariant-loop : goal.invariant-loop
 invariant-loop g l = record {

@@ -1,8 +1,8 @@
 -- What is written grows, write by write.
 use Rattle.std.proofs.Common.{arith, length-take, length-drop}
-use Rattle.pouring.proofs.Writing.{appends-on, appends-kept, fronted}
-use Rattle.pouring.proofs.write_whole.Goals as goal
-use Rattle.pouring.proofs.write_whole.Goals.{in-Ok, in-Err+else-ne}
+use Rattle.conversation.proofs.Writing.{appends-on, appends-kept, fronted}
+use Rattle.conversation.proofs.pouring.write_whole.Goals as goal
+use Rattle.conversation.proofs.pouring.write_whole.Goals.{in-Ok, in-Err+else-ne}
 
 pub returns-in-Ok-eq0-clause-err : goal.returns-in-Ok-eq0-clause-err
 returns-in-Ok-eq0-clause-err g c =

@@ -4,7 +4,7 @@ use Rattle.std.proofs.Math.Seq.{take-add}
 use Rattle.std.proofs.lemmas.List.{take_all}
 use Rattle.std.specs.Prelude.{None, Some, Option}
 use Rattle.std.specs.Io.KnownBytes.{Keeps, Appends}
-use Rattle.pouring.specs.Pouring.{AppendsFront}
+use Rattle.conversation.specs.Pouring.{AppendsFront}
 
 pub appends-more : (a b c : Option (List ℕ)) (xs ys : List ℕ) → Appends a b xs → Appends b c ys → Appends a c (xs ++ ys)
 appends-more None b c xs ys h k = tt
@@ -42,3 +42,19 @@ front-more a b c xs ys h k = record {
 
 pub all-front : (a b : Option (List ℕ)) (xs : List ℕ) → Appends a b xs → AppendsFront a b xs
 all-front a b xs h = record { front = xs; rest = []; whole = append-nil xs; appended = h }
+
+pub appends-none : (a : Option (List ℕ)) → Appends a a []
+appends-none None = tt
+appends-none (Some x) = sym (append-nil x)
+
+pub front-none : (a : Option (List ℕ)) → AppendsFront a a []
+front-none a = all-front a a [] (appends-none a)
+
+-- A beginning of a beginning.
+pub front-longer : (a b : Option (List ℕ)) (xs rest : List ℕ) → AppendsFront a b xs → AppendsFront a b (xs ++ rest)
+front-longer a b xs rest h = record {
+  front = h.front;
+  rest = h.rest ++ rest;
+  whole = sym (append_assoc h.front h.rest rest) ∙ ap (λ (w : List ℕ). w ++ rest) h.whole;
+  appended = h.appended;
+}
