@@ -12,6 +12,7 @@ ghost use Rattle.conversation.specs.Conversation.{Conversed, Fronts};
 
 use pouring::write_whole;
 use reading::read_some;
+use std::fmt;
 use std::io::{self, Read, Write};
 
 // Who is told an input, piece by piece, and gives texts for the output and for the messages.
@@ -63,6 +64,17 @@ pub enum Stop {
     LastWrite(io::Error),
     // No run reads so often.
     UsedUp,
+}
+
+impl fmt::Display for Stop {
+    fn fmt<W: fmt::Write>(&self, f: &mut fmt::Formatter<W>) -> fmt::Result {
+        match self {
+            Stop::Read(e) => write!(f, "read: {e}"),
+            Stop::Write(e) => write!(f, "write: {e}"),
+            Stop::LastWrite(e) => write!(f, "write: {e}"),
+            Stop::UsedUp => write!(f, "read: no more turns"),
+        }
+    }
 }
 
 // What the teller gave last, the messages first. A message that can't be written is lost.
