@@ -154,7 +154,7 @@ wrote-front (Err UsedUp) {a} {b} {xs} h = all-front a b xs h
 -- ---- what it gives for the whole input
 
 -- Turns give the beginning of what is given for the whole input, `whole` of it to the output, say, where a piece does.
-turns-begin : {T : Type 0} {Hears : T → List ℕ → T → Type 0} {output messages : T → List ℕ} (whole : T → List ℕ → List ℕ)
+pub turns-begin : {T : Type 0} {Hears : T → List ℕ → T → Type 0} {output messages : T → List ℕ} (whole : T → List ℕ → List ℕ)
     → ((s t : T) (piece rest : List ℕ) → Hears s piece t → whole s (piece ++ rest) ≡ output t ++ whole t rest)
     → {s t : T} {n : ℕ} {input out err : List ℕ} → Turns Hears output messages s n input out err t
     → (rest : List ℕ) → whole s (input ++ rest) ≡ out ++ whole t rest
@@ -166,7 +166,7 @@ turns-begin {output = output} whole on {s = s} (next_turn {t = t} {u} {input = i
     ∙ sym (append_assoc out (output u) (whole u rest))
 
 -- The same of the messages.
-turns-complain : {T : Type 0} {Hears : T → List ℕ → T → Type 0} {output messages : T → List ℕ} (whole : T → List ℕ → List ℕ)
+pub turns-complain : {T : Type 0} {Hears : T → List ℕ → T → Type 0} {output messages : T → List ℕ} (whole : T → List ℕ → List ℕ)
     → ((s t : T) (piece rest : List ℕ) → Hears s piece t → whole s (piece ++ rest) ≡ messages t ++ whole t rest)
     → {s t : T} {n : ℕ} {input out err : List ℕ} → Turns Hears output messages s n input out err t
     → (rest : List ℕ) → whole s (input ++ rest) ≡ err ++ whole t rest
