@@ -179,7 +179,7 @@ turns-complain {messages = messages} whole on {s = s} (next_turn {t = t} {u} {in
 
 module _ {T : Type 0} {Hears : T → List ℕ → T → Type 0} {Ends : T → T → Type 0} {output messages : T → List ℕ} (tells complains : T → List ℕ → List ℕ)
     (on : (s t : T) (piece rest : List ℕ) → Hears s piece t
-        → (tells s (piece ++ rest) ≡ output t ++ tells t rest) × (complains s (piece ++ rest) ≡ messages t ++ complains t rest))
+    → (tells s (piece ++ rest) ≡ output t ++ tells t rest) × (complains s (piece ++ rest) ≡ messages t ++ complains t rest))
     (so : (s t : T) → Ends s t → (tells s [] ≡ output t) × (complains s [] ≡ messages t)) where
   -- To the end of the input, all of it is given.
   all-given : {s t : T} {n : ℕ} {input out err : List ℕ} (b : Bool) → b ≡ true → Course Hears Ends output messages s b n input out err t

@@ -9,10 +9,10 @@ use Rattle.conversation.specs.declared.Stop.{Stop}
 use Rattle.conversation.proofs.Turning.{turns-begin, turns-complain, conversed-all, conversed-begins}
 use Rattle.asking.specs.Asked.{Texts, texts}
 use Rattle.telling.specs.Told.{joined, told_input}
-use Rattle.telling.specs.Telling.{Fed, new_telling, speaker, gives, HearsLines, EndsLines}
+use Rattle.telling.specs.Telling.{Fed, new_telling, speaker, gives}
 use Rattle.telling.specs.Laws.{lines-hear-on, lines-end-so}
-use Rattle.relay.specs.Relayed.{KeptTells, LineTurns, RelayedNew}
-use Rattle.relay.specs.Claims.{RelayTells, RelayBegins, BeginsWith, RelayPasses, RelayPassesFront}
+use Rattle.relay.specs.Relayed.{KeptTells, LineTurns}
+use Rattle.relay.specs.Claims.{RelayTells, RelayBegins, RelayPasses, RelayPassesFront}
 use Rattle.relay.proofs.Lines.{gives-input}
 
 abbrev tells : (ℕ → List ℕ → Texts) → Fed → List ℕ → List ℕ

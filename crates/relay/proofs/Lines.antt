@@ -1,14 +1,14 @@
 -- Bytes that come one by one give what the lines of the whole give.
 -- Assumes nothing.
 use Prim.Native.Nat.{ℕ, zero, suc}
-use mathlib.Core.Path.{◌≡◌, refl, sym, ap, ◌∙◌}
+use mathlib.Core.Path.{◌≡◌, refl, ap, ◌∙◌}
 use mathlib.Core.Bool.{Bool, true, false, cond}
 use mathlib.Core.List.{List, [], ◌∷◌, ◌++◌}
 use lib.ListN.{take}
 use Rattle.buffer.specs.Buffer.{is_newline, last_line, lines_from}
 use Rattle.asking.specs.Asked.{Texts, texts}
 use Rattle.telling.specs.Told.{joined, next_number, told_lines, told_input}
-use Rattle.telling.specs.Telling.{kept, Speaker, speaker, Fed, fed, feed_byte, feed, finish, gives}
+use Rattle.telling.specs.Telling.{kept, Speaker, speaker, Fed, fed, feed, finish, gives}
 use Rattle.telling.specs.Laws.{joined-assoc}
 use Rattle.relay.specs.Relayed.{KeptTells}
 

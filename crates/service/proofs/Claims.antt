@@ -1,9 +1,9 @@
 -- What the turns come to, and what the loop gives to be written.
 -- Assumes nothing.
-use Rattle.std.proofs.Common.{◌≡◌, ℕ, true, false, Bool, List, [], ◌++◌, take, refl, sym, ap, ◌∙◌, append_assoc}
+use Rattle.std.proofs.Common.{◌≡◌, ℕ, true, Bool, List, [], ◌++◌, take, refl, sym, ap, ◌∙◌, append_assoc}
 use Rattle.run.specs.Partial.{kept_length}
-use Rattle.run.specs.Run.{Runner, Fed, after, program, feed, finish, start}
-use Rattle.run.proofs.Kept.{Alike, feed-alike, finish-alike}
+use Rattle.run.specs.Run.{Runner, Fed, program, feed, finish, start}
+use Rattle.run.proofs.Kept.{feed-alike, finish-alike}
 use Rattle.run.proofs.Pieces.{feed-append, feed-answers}
 use Rattle.conversation.specs.Conversation.{no_turn, next_turn, Course, stopped, to_the_end}
 use Rattle.service.specs.Calls.{RanAll, HearsCalls, EndsCalls, new_run}

@@ -1,6 +1,6 @@
 -- What a piece and the end of the input make of a run.
 -- Assumes nothing.
-use Rattle.std.proofs.Common.{◌≡◌, ℕ, List, take, refl, ap, ◌∙◌, arith}
+use Rattle.std.proofs.Common.{ℕ, List, take, ap, ◌∙◌, arith}
 use lib.Seq.{take-take}
 use Rattle.run.specs.declared.{Session.Session, Ran.Ran}
 use Rattle.run.specs.Partial.{kept_length}

@@ -8,7 +8,7 @@ use Rattle.def.specs.State.{slots}
 use Rattle.keys.specs.Keys.{rows_length}
 use Rattle.whole.specs.Whole.{whole}
 use Rattle.machine.specs.declared.Machine.{Machine}
-use Rattle.machine.specs.Running.{machine_in, Runs}
+use Rattle.machine.specs.Running.{Runs}
 use Rattle.machine.proofs.Running.{new-machine}
 use Rattle.machine.proofs.EveryCall.{new-sound}
 use Rattle.run.specs.declared.Session.{Session}

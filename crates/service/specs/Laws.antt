@@ -1,10 +1,10 @@
 -- A run that is told its input in pieces gives the answers to the whole.
 -- Assumes nothing.
-use Rattle.std.proofs.Common.{◌≡◌, ℕ, List, [], ◌++◌, take, refl, sym, ap, ◌∙◌, append_assoc}
-use Rattle.run.specs.Run.{Runner, Fed, after, feed, finish}
+use Rattle.std.proofs.Common.{◌≡◌, ℕ, List, [], ◌++◌, refl, sym, ap, ◌∙◌, append_assoc}
+use Rattle.run.specs.Run.{Runner, Fed, feed, finish}
 use Rattle.run.proofs.Kept.{Alike, feed-alike, finish-alike}
 use Rattle.run.proofs.Pieces.{feed-append}
-use Rattle.service.specs.Calls.{RanAll, HearsCalls, EndsCalls, answers_from}
+use Rattle.service.specs.Calls.{HearsCalls, EndsCalls, answers_from}
 
 -- Runs that keep the same of their line answer alike.
 pub answers-alike : {r s : Runner} (rest : List ℕ) → Alike r s → answers_from r rest ≡ answers_from s rest

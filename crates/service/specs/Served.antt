@@ -3,7 +3,7 @@
 use Rattle.std.specs.Prelude.{ℕ, List, [], Option, Result}
 use Rattle.run.specs.Run.{Fed}
 use Rattle.conversation.specs.declared.Stop.{Stop}
-use Rattle.conversation.specs.Conversation.{Turns, Course, Conversed}
+use Rattle.conversation.specs.Conversation.{Turns, Conversed}
 use Rattle.service.specs.Calls.{HearsCalls, EndsCalls, new_run}
 
 abbrev pub written_by : Fed → List ℕ

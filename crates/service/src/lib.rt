@@ -124,11 +124,7 @@ impl Teller for CallTeller {
 }
 
 // Answers every line of the input, those that a read completed before the next read, from the new machine.
-pub fn serve<R: Read, W: Write>(
-    rt: &impl Eprint,
-    input: &mut R,
-    output: &mut W,
-) -> Result<(), Stop>
+pub fn serve<R: Read, W: Write>(rt: &impl Eprint, input: &mut R, output: &mut W) -> Result<(), Stop>
     ensures served { ServedNew (R.remaining input.old) (R.remaining input.new) (W.contents output.old) (W.contents output.new) result }
     ensures all { OnOk result (IfSome (R.remaining input.old) (λ bytes.
         Appends (W.contents output.old) (W.contents output.new) (program bytes))) }

@@ -3,13 +3,13 @@
 use Prim.Native.Nat.{ℕ, ◌+◌, ◌-◌, ◌*◌, ◌≤◌, ◌<◌}
 use native.Mathlib.Numerals.{add-one}
 use native.Mathlib.Omega.{arith}
-use mathlib.Core.Path.{◌≡◌, refl, sym, ap, ◌∙◌, subst}
+use mathlib.Core.Path.{◌≡◌, refl, sym, ap, ◌∙◌}
 use mathlib.Core.List.{List, [], ◌∷◌, ◌++◌, append_assoc, append-nil}
 use lib.ListN.{length, get_or, take, drop, set, length-append, length-drop}
 use lib.Seq.{take_all, take_at, take-suc, take-suc-set, length-take-le}
 use borrow.Rule.Slice.PartMut.{mid_of, post_of, put_mid}
 use Rattle.phrases.specs.Phrases.{Added}
-use Rattle.phrases.proofs.Adding.{added-length, added-front}
+use Rattle.phrases.proofs.Adding.{added-front}
 use Rattle.asking.specs.Asked.{Texts, texts, Wrote}
 use Rattle.telling.specs.Told.{joined, next_number}
 use Rattle.telling.specs.Telling.{kept, most, piece_room, Speaker, speaker, Fed, fed, kept_more, feed_byte, feed, finish, HasRoom, Gives}

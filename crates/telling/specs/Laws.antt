@@ -14,7 +14,7 @@ use Rattle.expecting.specs.Expected.{expected_words}
 use Rattle.asking.specs.Asked.{Texts, texts, asked}
 use Rattle.saying.specs.Words.{bad_line_words, said_line}
 use Rattle.telling.specs.Told.{joined, said}
-use Rattle.telling.specs.Telling.{kept, Speaker, speaker, Fed, fed, feed_byte, feed, finish, gives, HearsLines, EndsLines}
+use Rattle.telling.specs.Telling.{kept, Speaker, Fed, fed, feed_byte, feed, finish, gives, HearsLines, EndsLines}
 
 -- ---- what is kept of a line
 
@@ -39,8 +39,8 @@ pub said-kept : (number : ℕ) (line : List ℕ) → said number (take kept line
 said-kept number line =
     ap (λ (w : List ℕ). texts w []) (⊎_elim (λ (h : length line < kept). ap (said_line number) (take_all kept line (omega arith)))
     (λ (h : kept ≤ length line).
-        let e = length-take-le kept line h in
-        said-long number (take kept line) (λ f. omega arith) ∙ sym (said-long number line (λ f. omega arith)))
+    let e = length-take-le kept line h in
+    said-long number (take kept line) (λ f. omega arith) ∙ sym (said-long number line (λ f. omega arith)))
     (lt-or-ge (length line) kept))
 
 -- ---- an input in pieces

@@ -1,7 +1,7 @@
 -- Turn after turn, each on what the one before left, and how it ends.
-use Rattle.std.proofs.Common.{◌≡◌, ◌<◌, ◌≤◌, ℕ, length, take, rules, arith}
-use Rattle.std.specs.Prelude.{MatchResult, Ok, Err, OnOk}
-use Rattle.std.specs.Io.KnownBytes.{Appends, Consumes}
+use Rattle.std.proofs.Common.{◌≡◌, ◌<◌, length, rules, arith}
+use Rattle.std.specs.Prelude.{MatchResult, Ok, Err}
+use Rattle.std.specs.Io.KnownBytes.{Appends}
 use Rattle.conversation.specs.declared.Stop.TheVariants.{Read, Write, LastWrite}
 use Rattle.conversation.proofs.Turning.{some-read, reached-none, reached-more, read-failed, write-failed, ended, all-used, conversed-all, conversed-begins}
 use Rattle.conversation.proofs.converse.Goals as goal

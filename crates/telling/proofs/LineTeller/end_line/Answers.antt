@@ -1,5 +1,5 @@
 -- The line's texts stand behind what was there.
-use Rattle.std.proofs.Common.{◌≡◌, length, arith}
+use Rattle.std.proofs.Common.{arith}
 use Rattle.telling.proofs.Bytes.{line-told, stands}
 use Rattle.telling.proofs.LineTeller.end_line.Goals as goal
 

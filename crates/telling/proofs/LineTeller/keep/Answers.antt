@@ -1,6 +1,5 @@
 -- What is kept of the line.
 use Rattle.std.proofs.Common.{arith}
-use Rattle.asking.specs.Asked.{texts}
 use Rattle.telling.proofs.Bytes.{keep-more, keep-full}
 use Rattle.telling.proofs.LineTeller.keep.Goals as goal
 

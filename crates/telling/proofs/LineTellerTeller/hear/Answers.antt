@@ -1,6 +1,5 @@
 -- Byte after byte.
-use Rattle.std.proofs.Common.{arith}
-use Rattle.telling.proofs.Bytes.{so-far-none, so-far-more, so-far-room, so-far-all}
+use Rattle.telling.proofs.Bytes.{so-far-none, so-far-more}
 use Rattle.telling.proofs.LineTellerTeller.hear.Goals as goal
 
 pub loop-c-init : goal.loop-c-init
