@@ -1,13 +1,12 @@
 // The program: commands from standard input, one a line, and their call lines to standard output; what it can't read is told on standard error.
 #![tactic(auto)]
 
-use relaying::relay;
-use telling::Kind;
+use relay::relay;
+use telling::Commands;
 
 fn main(rt: HostRuntime) {
-    relay(
+    let _ = relay::<Commands, _, _, _>(
         &rt,
-        Kind::Ask,
         &mut rt.stdin(),
         &mut rt.stdout(),
         &mut rt.stderr(),

@@ -1,8 +1,8 @@
 // The program: calls from standard input, one a line, and their answers to standard output.
 #![tactic(auto)]
 
-use serve::serve;
+use service::serve;
 
 fn main(rt: HostRuntime) {
-    serve(&rt, &mut rt.stdin(), &mut rt.stdout());
+    let _ = serve(&rt, &mut rt.stdin(), &mut rt.stdout());
 }

@@ -1,13 +1,12 @@
 // The program: answer lines from standard input, and their words to standard output.
 #![tactic(auto)]
 
-use relaying::relay;
-use telling::Kind;
+use relay::relay;
+use telling::Answers;
 
 fn main(rt: HostRuntime) {
-    relay(
+    let _ = relay::<Answers, _, _, _>(
         &rt,
-        Kind::Say,
         &mut rt.stdin(),
         &mut rt.stdout(),
         &mut rt.stderr(),

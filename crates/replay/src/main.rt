@@ -4,7 +4,7 @@
 // the specification, those to the sessions come from the original Rust wherever it decides (`oracle answers`).
 #![tactic(auto)]
 
-use serve::serve;
+use service::serve;
 use std::fs;
 use std::io::Write;
 use std::rt::Files;
@@ -12,7 +12,7 @@ use std::rt::Files;
 fn replay<W: Write>(rt: &(impl Files + Eprint), output: &mut W, path: &str) {
     match fs::open(rt, path) {
         Ok(mut input) => {
-            serve(rt, &mut input, output);
+            let _ = serve(rt, &mut input, output);
         }
         Err(e) => {
             let _ = eprintln!(rt; "{path}: {e}");

@@ -3,22 +3,21 @@
 // What `stdout` has for them was not made by these programs: it was written from the definitions.
 #![tactic(auto)]
 
-use relaying::relay;
+use relay::relay;
 use std::fs;
 use std::io::Write;
 use std::rt::Files;
-use telling::Kind;
+use telling::{Answers, Commands, Lines};
 
-fn run<W: Write, E: Write>(
+fn run<L: Lines, W: Write, E: Write>(
     rt: &(impl Files + Eprint),
-    kind: Kind,
     output: &mut W,
     errors: &mut E,
     path: &str,
 ) {
     match fs::open(rt, path) {
         Ok(mut input) => {
-            relay(rt, kind, &mut input, output, errors);
+            let _ = relay::<L, _, _, _>(rt, &mut input, output, errors);
         }
         Err(e) => {
             let _ = eprintln!(rt; "{path}: {e}");
@@ -30,16 +29,16 @@ fn main(rt: HostRuntime) {
     let mut output = rt.stdout();
     let mut errors = rt.stdout();
     // Every command, with every part and with each part left out, in any order, with comments and other spaces.
-    run(&rt, Kind::Ask, &mut output, &mut errors, "commands");
+    run::<Commands, _, _>(&rt, &mut output, &mut errors, "commands");
     // Every way in which a command can't be read, and a good one behind them.
-    run(&rt, Kind::Ask, &mut output, &mut errors, "bad_commands");
+    run::<Commands, _, _>(&rt, &mut output, &mut errors, "bad_commands");
     // Lines of 1,023, 1,024 and 5,000 characters, and a last line that lacks its newline.
-    run(&rt, Kind::Ask, &mut output, &mut errors, "long_commands");
+    run::<Commands, _, _>(&rt, &mut output, &mut errors, "long_commands");
     // Every call with every status.
-    run(&rt, Kind::Say, &mut output, &mut errors, "answers");
+    run::<Answers, _, _>(&rt, &mut output, &mut errors, "answers");
     // Every kind of line that is no answer, and an answer behind them.
-    run(&rt, Kind::Say, &mut output, &mut errors, "bad_answers");
+    run::<Answers, _, _>(&rt, &mut output, &mut errors, "bad_answers");
     // Nothing at all.
-    run(&rt, Kind::Ask, &mut output, &mut errors, "empty");
-    run(&rt, Kind::Say, &mut output, &mut errors, "empty");
+    run::<Commands, _, _>(&rt, &mut output, &mut errors, "empty");
+    run::<Answers, _, _>(&rt, &mut output, &mut errors, "empty");
 }

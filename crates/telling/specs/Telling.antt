@@ -1,21 +1,20 @@
--- Lines as their bytes come.
+-- Lines as their bytes come; `told` is what a line with its number gives.
 -- Assumes nothing.
 use Rattle.std.specs.Prelude.{ℕ, ◌+◌, ◌*◌, ◌≤◌, ◌≡◌, cond, List, [], ◌∷◌, ◌++◌, length, take}
 use Rattle.buffer.specs.Buffer.{is_newline}
 use Rattle.phrases.specs.Phrases.{Added}
 use Rattle.asking.specs.Asked.{Texts, texts}
-use Rattle.saying.specs.Words.{said_line}
-use Rattle.spots.specs.declared.Spot.{Spot}
-use Rattle.telling.specs.declared.{Kind.Kind, Told.Told, Spoken.Spoken}
-use Rattle.spots.specs.Spots.{next_number}
-use Rattle.telling.specs.Told.{told, joined}
+use Rattle.telling.specs.Told.{joined, next_number}
 
--- How many characters of a line are kept, one more than it may have; and how many bytes a line gives at most.
+-- How many characters of a line are kept, one more than it may have; how many bytes a line gives at most, and how many a piece has.
 abbrev pub kept : ℕ
 kept = 1024
 
 abbrev pub most : ℕ
 most = 128
+
+abbrev pub piece_room : ℕ
+piece_room = 1024
 
 -- The line that is not finished yet, as far as it is kept, and its number.
 pub record Speaker : Type 0 where
@@ -25,6 +24,7 @@ pub record Speaker : Type 0 where
 abbrev pub speaker : List ℕ → ℕ → Speaker
 speaker line number = record { line = line; number = number }
 
+-- The same after part of an input, and what this gave.
 pub record Fed : Type 0 where
   pub speaker : Speaker
   pub texts : Texts
@@ -32,33 +32,47 @@ pub record Fed : Type 0 where
 abbrev pub fed : Speaker → Texts → Fed
 fed s t = record { speaker = s; texts = t }
 
+-- At the start, nothing is kept of line 1.
+abbrev pub new_telling : Fed
+new_telling = fed (speaker [] 1) (texts [] [])
+
 -- A newline ends the line, which is told; any other byte is one more of it.
-abbrev pub feed_byte : Kind → Speaker → ℕ → Fed
-feed_byte kind s c =
-    cond (is_newline c) (fed (speaker [] (next_number s.number)) (told kind s.number s.line))
+abbrev pub feed_byte : (ℕ → List ℕ → Texts) → Speaker → ℕ → Fed
+feed_byte told s c =
+    cond (is_newline c) (fed (speaker [] (next_number s.number)) (told s.number s.line))
     (fed (speaker (take kept (s.line ++ (c ∷ []))) s.number) (texts [] []))
 
-unfoldable pub feed : Kind → Speaker → List ℕ → Fed
-feed kind s [] = fed s (texts [] [])
-feed kind s (c ∷ cs) =
-    let next = feed_byte kind s c in
-    let rest = feed kind next.speaker cs in
+unfoldable pub feed : (ℕ → List ℕ → Texts) → Speaker → List ℕ → Fed
+feed told s [] = fed s (texts [] [])
+feed told s (c ∷ cs) =
+    let next = feed_byte told s c in
+    let rest = feed told next.speaker cs in
     fed rest.speaker (joined next.texts rest.texts)
 
--- What lent arrays and numbers stand for.
-abbrev pub kept_line : List ℕ → ℕ → List ℕ
-kept_line held len = take len held
+-- What a last line lacks: its newline, or nothing where no line is left.
+abbrev pub last_newline : List ℕ → List ℕ
+last_newline [] = []
+last_newline (c ∷ cs) = 10 ∷ []
 
-abbrev pub speaker_in : List ℕ → Spot → Speaker
-speaker_in held spot = speaker (kept_line held spot.len) spot.number
+-- At the end of the input a last line without its newline is ended as if it had one.
+abbrev pub finish : (ℕ → List ℕ → Texts) → Speaker → Fed
+finish told s = feed told s (last_newline s.line)
 
-pub record Keeps (held : List ℕ) (len : ℕ) : Type 0 where
-  pub long : length held ≡ kept
-  pub fits : len ≤ kept
+-- All that is given for what is left of the input.
+abbrev pub gives : (ℕ → List ℕ → Texts) → Speaker → List ℕ → Texts
+gives told s rest = joined (feed told s rest).texts (finish told (feed told s rest).speaker).texts
 
-pub record Kept (held : List ℕ) (len c next : ℕ) (held' : List ℕ) : Type 0 where
-  pub line : kept_line held' next ≡ take kept (kept_line held len ++ (c ∷ []))
-  pub keeps : Keeps held' next
+abbrev pub HearsLines : (ℕ → List ℕ → Texts) → Fed → List ℕ → Fed → Type 0
+HearsLines told s piece t = t ≡ feed told s.speaker piece
+
+abbrev pub EndsLines : (ℕ → List ℕ → Texts) → Fed → Fed → Type 0
+EndsLines told s t = t ≡ finish told s.speaker
+
+-- ---- one byte more
+
+-- One more character is kept of the line, where there is room.
+abbrev pub kept_more : Fed → ℕ → Fed
+kept_more s c = fed (speaker (take kept (s.speaker.line ++ (c ∷ []))) s.speaker.number) s.texts
 
 -- Two texts stand at the front of two buffers, which are else as they were.
 pub record Wrote (out err : List ℕ) (t : Texts) (m n : ℕ) (out' err' : List ℕ) : Type 0 where
@@ -67,37 +81,13 @@ pub record Wrote (out err : List ℕ) (t : Texts) (m n : ℕ) (out' err' : List 
   pub out_short : m ≤ most
   pub err_short : n ≤ most
 
--- An answer line's words at the front of the output.
-pub record Ends (out : List ℕ) (number : ℕ) (line : List ℕ) (t : Told) (out' : List ℕ) : Type 0 where
-  pub words : Added out 0 (said_line number line) t.out out'
-  pub no_message : t.err ≡ 0
-  pub short : t.out ≤ most
-
 -- There is room for what one more line gives.
-pub record Room (held : List ℕ) (s : Spoken) (out err : List ℕ) : Type 0 where
-  pub keeps : Keeps held s.spot.len
-  pub out_room : s.out + most ≤ length out
-  pub err_room : s.err + most ≤ length err
+pub record HasRoom (s : Fed) : Type 0 where
+  pub out_room : length s.texts.out + most ≤ most * piece_room
+  pub err_room : length s.texts.err + most ≤ most * piece_room
 
--- One more byte: its texts stand behind what stood there.
-pub record TookByte (kind : Kind) (held : List ℕ) (s : Spoken) (c : ℕ) (out err : List ℕ) (r : Spoken) (held' out' err' : List ℕ) : Type 0 where
-  pub speaker_is : speaker_in held' r.spot ≡ (feed_byte kind (speaker_in held s.spot) c).speaker
-  pub keeps : Keeps held' r.spot.len
-  pub to_out : Added out s.out (feed_byte kind (speaker_in held s.spot) c).texts.out r.out out'
-  pub to_err : Added err s.err (feed_byte kind (speaker_in held s.spot) c).texts.err r.err err'
-  pub out_short : r.out ≤ s.out + most
-  pub err_short : r.err ≤ s.err + most
-
-pub record PieceRoom (held : List ℕ) (spot : Spot) (piece out err : List ℕ) : Type 0 where
-  pub keeps : Keeps held spot.len
-  pub out_room : most * length piece ≤ length out
-  pub err_room : most * length piece ≤ length err
-
--- A piece of the input: its texts stand at the front of the buffers.
-pub record ToldPiece (kind : Kind) (held : List ℕ) (spot : Spot) (piece out err : List ℕ) (r : Spoken) (held' out' err' : List ℕ) : Type 0 where
-  pub speaker_is : speaker_in held' r.spot ≡ (feed kind (speaker_in held spot) piece).speaker
-  pub keeps : Keeps held' r.spot.len
-  pub to_out : Added out 0 (feed kind (speaker_in held spot) piece).texts.out r.out out'
-  pub to_err : Added err 0 (feed kind (speaker_in held spot) piece).texts.err r.err err'
-  pub out_fits : r.out ≤ length out'
-  pub err_fits : r.err ≤ length err'
+-- One more byte: its texts stand behind what stood there, and are short.
+pub record Gives (told : ℕ → List ℕ → Texts) (s : Fed) (c : ℕ) (t : Fed) : Type 0 where
+  pub is : t ≡ fed (feed_byte told s.speaker c).speaker (joined s.texts (feed_byte told s.speaker c).texts)
+  pub out_short : length t.texts.out ≤ length s.texts.out + most
+  pub err_short : length t.texts.err ≤ length s.texts.err + most

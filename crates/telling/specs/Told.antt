@@ -1,24 +1,26 @@
--- What a program writes for its input, line by line: for a line of commands the line of a call or a message, for an answer line its words.
+-- What a program writes for its input, line by line; `told` is what it makes of a line with its number.
 -- Assumes nothing.
-use Rattle.std.specs.Prelude.{ℕ, List, [], ◌∷◌, ◌++◌}
+use Rattle.std.specs.Prelude.{ℕ, ◌+◌, ◌%◌, ◌^◌, List, [], ◌∷◌, ◌++◌}
 use Rattle.buffer.specs.Buffer.{lines_from}
-use Rattle.asking.specs.Asked.{Texts, texts, asked}
+use Rattle.asking.specs.Asked.{Texts, texts}
 use Rattle.saying.specs.Words.{said_line}
-use Rattle.spots.specs.Spots.{next_number}
-use Rattle.telling.specs.declared.Kind.{Kind}
 
-abbrev pub told : Kind → ℕ → List ℕ → Texts
-told Kind.Ask number line = asked number line
-told Kind.Say number line = texts (said_line number line) []
+-- For an answer line its words; for a line of commands `asked` says it.
+abbrev pub said : ℕ → List ℕ → Texts
+said number line = texts (said_line number line) []
 
 abbrev pub joined : Texts → Texts → Texts
 joined a b = texts (a.out ++ b.out) (a.err ++ b.err)
 
-unfoldable pub told_lines : Kind → ℕ → List (List ℕ) → Texts
-told_lines kind number [] = texts [] []
-told_lines kind number (l ∷ ls) = joined (told kind number l) (told_lines kind (next_number number) ls)
+-- Lines are counted in 64 bits.
+abbrev pub next_number : ℕ → ℕ
+next_number n = (n + 1) % 2 ^ 64
+
+unfoldable pub told_lines : (ℕ → List ℕ → Texts) → ℕ → List (List ℕ) → Texts
+told_lines told number [] = texts [] []
+told_lines told number (l ∷ ls) = joined (told number l) (told_lines told (next_number number) ls)
 
 -- The lines of the input, the first of which has number 1; a last line may lack its newline.
-unfoldable pub told_input : Kind → List ℕ → Texts
+unfoldable pub told_input : (ℕ → List ℕ → Texts) → List ℕ → Texts
 unfolding told_lines lines_from
-told_input kind input = told_lines kind 1 (lines_from [] input)
+told_input told input = told_lines told 1 (lines_from [] input)

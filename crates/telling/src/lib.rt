@@ -2,37 +2,28 @@
 // put behind those of the lines before, so what stands in the buffers after a piece of the input is what its lines give.
 #![tactic(auto)]
 
-ghost use Rattle.std.specs.Prelude.{◌≤◌, length};
-ghost use Rattle.buffer.specs.Buffer.{newline};
-ghost use Rattle.asking.specs.Asked.{asked};
-ghost use Rattle.telling.specs.Told.{told};
-ghost use Rattle.telling.specs.Telling.{most, Wrote, Keeps, Kept, Ends, Room, TookByte, PieceRoom, ToldPiece};
+ghost use Rattle.std.specs.Prelude.{ℕ, ◌≤◌, ◌≡◌, List, [], ◌∷◌, ◌++◌, length, take};
+ghost use Rattle.asking.specs.Asked.{Texts, asked};
+ghost use Rattle.telling.specs.Told.{said};
+ghost use Rattle.telling.specs.Telling.{most, kept, Wrote, Fed, new_telling, kept_more, HasRoom, Gives, HearsLines, EndsLines, gives, feed_byte};
 
 use asking::{LONGEST, ask_line};
+use conversation::Teller;
 use phrases::add;
 use saying::say_line;
-use spots::{Spot, next_spot};
+use std::marker::{Model, PhantomData};
 
-// What the lines are.
-#[derive(Clone, Copy)]
-pub enum Kind {
-    Ask,
-    Say,
-}
+// What one read brings at most.
+pub const PIECE: usize = 1024;
 
 // One character more than a line may have is kept of it: then it is too long, whatever follows.
-pub const KEPT: usize = LONGEST + 1;
+const KEPT: usize = LONGEST + 1;
 
 // No line gives more bytes.
-pub const MOST: usize = 128;
+const MOST: usize = 128;
 
-// Where the input stands, and how many bytes stand at the front of the output and of the messages.
-#[derive(Clone, Copy)]
-pub struct Spoken {
-    pub spot: Spot,
-    pub out: usize,
-    pub err: usize,
-}
+// Room for what a line gives for each byte, since each may be a newline.
+const TEXTS: usize = PIECE * MOST;
 
 // How many bytes a line gives to the output, and to the messages.
 #[derive(Clone, Copy)]
@@ -41,134 +32,189 @@ pub struct Told {
     pub err: usize,
 }
 
-fn ask_told(out: &mut [u8], err: &mut [u8], line: &[u8], number: u64) -> Told
-    requires { (most ≤ length out.old) × (most ≤ length err.old) }
-    ensures { Wrote out.old err.old (asked number line.now) result.out result.err out.new err.new }
-{
-    match ask_line(line, number) {
-        Ok(Some(call)) => Told {
-            out: add(out, 0, call.as_slice()),
+// What the lines are.
+pub trait Lines {
+    // What a line with its number gives.
+    ghost told: { ℕ → List ℕ → Texts };
+
+    // A line with its number, given without its newline: its texts at the fronts of the buffers.
+    fn tell(out: &mut [u8], err: &mut [u8], line: &[u8], number: u64) -> Told
+        requires { (most ≤ length out.old) × (most ≤ length err.old) }
+        ensures { let texts = told number line.now in
+            Wrote out.old err.old texts result.out result.err out.new err.new };
+
+    // Of a line no more counts than what is kept of it.
+    ghost kept_tells: { (number : ℕ) (line : List ℕ) → told number (take kept line) ≡ told number line };
+}
+
+// Commands, told as the lines of their calls.
+pub struct Commands;
+
+impl Lines for Commands {
+    ghost use Rattle.asking.specs.Asked.{asked};
+    ghost use Rattle.telling.specs.Laws.{asked-kept};
+
+    ghost told = { asked };
+
+    ghost kept_tells = { asked-kept };
+
+    fn tell(out: &mut [u8], err: &mut [u8], line: &[u8], number: u64) -> Told {
+        match ask_line(line, number) {
+            Ok(Some(call)) => Told {
+                out: add(out, 0, call.as_slice()),
+                err: 0,
+            },
+            Ok(None) => Told { out: 0, err: 0 },
+            Err(message) => Told {
+                out: 0,
+                err: add(err, 0, message.as_str().as_bytes()),
+            },
+        }
+    }
+}
+
+// Answer lines, told in words.
+pub struct Answers;
+
+impl Lines for Answers {
+    ghost use Rattle.telling.specs.Told.{said};
+    ghost use Rattle.telling.specs.Laws.{said-kept};
+
+    ghost told = { said };
+
+    ghost kept_tells = { said-kept };
+
+    fn tell(out: &mut [u8], _err: &mut [u8], line: &[u8], number: u64) -> Told {
+        Told {
+            out: add(out, 0, say_line(line, number).as_str().as_bytes()),
             err: 0,
-        },
-        Ok(None) => Told { out: 0, err: 0 },
-        Err(message) => Told {
-            out: 0,
-            err: add(err, 0, message.as_str().as_bytes()),
-        },
+        }
     }
 }
 
-fn say_told(out: &mut [u8], line: &[u8], number: u64) -> Told
-    requires { most ≤ length out.old }
-    ensures { Ends out.old number line.now result out.new }
-{
-    Told {
-        out: add(out, 0, say_line(line, number).as_str().as_bytes()),
-        err: 0,
+// The line that is not finished, of which `len` characters are kept, and its number; and what the last piece gave, at the fronts of the two
+// buffers.
+#[derive(Drop)]
+pub struct LineTeller<L> {
+    held: [u8; KEPT],
+    len: usize,
+    number: u64,
+    out: [u8; TEXTS],
+    err: [u8; TEXTS],
+    told: Told,
+    lines: PhantomData<L>,
+}
+
+impl<L> Model for LineTeller<L> {
+    ghost use Rattle.std.specs.Prelude.{◌≤◌, length, take};
+    ghost use Rattle.asking.specs.Asked.{texts};
+    ghost use Rattle.telling.specs.Telling.{Fed, fed, speaker, kept};
+
+    ghost Value = { Fed };
+
+    ghost view = { λ l. fed (speaker (take l.len l.held) l.number) (texts (take l.told.out l.out) (take l.told.err l.err)) };
+
+    ghost invariant = { λ l. (l.len ≤ kept) × (l.told.out ≤ length l.out) × (l.told.err ≤ length l.err) };
+}
+
+impl<L: Lines> LineTeller<L> {
+    // The first line has number 1.
+    pub fn new() -> LineTeller<L>
+        ensures { result ≡ new_telling }
+    {
+        LineTeller {
+            held: [0; KEPT],
+            len: 0,
+            number: 1,
+            out: [0; TEXTS],
+            err: [0; TEXTS],
+            told: Told { out: 0, err: 0 },
+            lines: PhantomData,
+        }
+    }
+
+    // One more character of the line.
+    fn keep(&mut self, c: u8)
+        ensures { self.new ≡ kept_more self.old c }
+    {
+        if self.len < KEPT {
+            self.held[self.len] = c;
+            self.len += 1;
+        }
+    }
+
+    // The line has ended: its texts go behind what stands in the buffers.
+    fn end_line(&mut self)
+        requires { HasRoom self.old }
+        ensures { Gives L.told self.old 10 self.new }
+    {
+        let told = L::tell(
+            &mut self.out[self.told.out..],
+            &mut self.err[self.told.err..],
+            &self.held[..self.len],
+            self.number,
+        );
+        self.told.out += told.out;
+        self.told.err += told.err;
+        self.len = 0;
+        self.number = self.number.wrapping_add(1);
+    }
+
+    // One more byte of the input.
+    fn take_byte(&mut self, c: u8)
+        requires { HasRoom self.old }
+        ensures { Gives L.told self.old c self.new }
+    {
+        if c == b'\n' {
+            self.end_line();
+        } else {
+            self.keep(c);
+        }
     }
 }
 
-// A line with its number, given without its newline.
-fn tell_line(kind: Kind, out: &mut [u8], err: &mut [u8], line: &[u8], number: u64) -> Told
-    requires { (most ≤ length out.old) × (most ≤ length err.old) }
-    ensures { let texts = told kind number line.now in
-        Wrote out.old err.old texts result.out result.err out.new err.new }
-{
-    match kind {
-        Kind::Ask => ask_told(out, err, line, number),
-        Kind::Say => say_told(out, line, number),
-    }
-}
+impl<L: Lines> Teller for LineTeller<L> {
+    ghost use Rattle.telling.specs.Telling.{HearsLines, EndsLines, gives, piece_room};
+    ghost use Rattle.telling.specs.Laws.{lines-hear-on, lines-end-so};
 
-// One more character of a line.
-fn keep(held: &mut [u8], len: usize, c: u8) -> usize
-    requires { Keeps held.old len }
-    ensures { Kept held.old len c result held.new }
-{
-    if len < KEPT {
-        held[len] = c;
-        return len + 1;
-    }
-    len
-}
+    ghost Hears = { HearsLines L.told };
 
-// The line has ended: its texts go behind what stands in the buffers.
-fn end_line(kind: Kind, held: &[u8], from: Spoken, out: &mut [u8], err: &mut [u8]) -> Spoken
-    requires { Room held.now from out.old err.old }
-    ensures { let held = held.entry.now in
-        TookByte kind held from newline out.old err.old result held out.new err.new }
-{
-    let spot = from.spot;
-    let len = spot.len;
-    let at = from.out;
-    let below = from.err;
-    let t = tell_line(
-        kind,
-        &mut out[at..],
-        &mut err[below..],
-        &held[..len],
-        spot.number,
-    );
-    let next = next_spot(spot);
-    Spoken {
-        spot: next,
-        out: at + t.out,
-        err: below + t.err,
-    }
-}
+    ghost Ends = { EndsLines L.told };
 
-// One more byte of the input.
-fn take_byte(
-    kind: Kind,
-    held: &mut [u8],
-    from: Spoken,
-    c: u8,
-    out: &mut [u8],
-    err: &mut [u8],
-) -> Spoken
-    requires { Room held.old from out.old err.old }
-    ensures { TookByte kind held.old from c out.old err.old
-        result held.new out.new err.new }
-{
-    if c == b'\n' {
-        return end_line(kind, held, from, out, err);
-    }
-    let spot = from.spot;
-    let len = keep(held, spot.len, c);
-    let next = Spot {
-        len,
-        number: spot.number,
-    };
-    Spoken {
-        spot: next,
-        out: from.out,
-        err: from.err,
-    }
-}
+    ghost output = { λ s. s.texts.out };
 
-// A piece of the input; the buffers have room for what a line gives for each byte.
-pub fn tell_piece(
-    kind: Kind,
-    held: &mut [u8],
-    spot: Spot,
-    piece: &[u8],
-    out: &mut [u8],
-    err: &mut [u8],
-) -> Spoken
-    requires { PieceRoom held.old spot piece.now out.old err.old }
-    ensures { ToldPiece kind held.old spot piece.now out.old err.old
-        result held.new out.new err.new }
-{
-    let mut spoken = Spoken {
-        spot,
-        out: 0,
-        err: 0,
-    };
-    let mut i = 0;
-    while i < piece.len() {
-        let next = take_byte(kind, held, spoken, piece[i], out, err);
-        spoken = next;
-        i += 1;
+    ghost messages = { λ s. s.texts.err };
+
+    ghost tells = { λ s rest. (gives L.told s.speaker rest).out };
+
+    ghost complains = { λ s rest. (gives L.told s.speaker rest).err };
+
+    ghost room = { piece_room };
+
+    ghost hears_on = { lines-hear-on L.told };
+
+    ghost ends_so = { lines-end-so L.told };
+
+    fn hear(&mut self, piece: &[u8]) {
+        self.told = Told { out: 0, err: 0 };
+        for c in piece {
+            self.take_byte(*c);
+        }
     }
-    spoken
+
+    // A last line that lacks its newline is told as if it had one.
+    fn end(&mut self) {
+        self.told = Told { out: 0, err: 0 };
+        if self.len != 0 {
+            self.end_line();
+        }
+    }
+
+    fn output(&self) -> &[u8] {
+        &self.out[..self.told.out]
+    }
+
+    fn messages(&self) -> &[u8] {
+        &self.err[..self.told.err]
+    }
 }

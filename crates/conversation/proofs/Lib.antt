@@ -1,0 +1,3 @@
+pub mod Brought
+pub mod Writing
+pub mod Turning

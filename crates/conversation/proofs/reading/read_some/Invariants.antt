@@ -1,0 +1,6 @@
+-- Nothing was brought so far.
+use Rattle.std.specs.Io.KnownBytes.{Keeps}
+use Rattle.conversation.proofs.reading.read_some.Given as goal
+
+abbrev pub invariant-loop : goal.invariant-loop
+invariant-loop g l = Keeps (g.R.Read.remaining l.fn.input) (g.R.Read.remaining l.input)

@@ -1,2 +1,0 @@
-pub mod Loop
-pub mod Claims

@@ -1,0 +1,2 @@
+pub mod Relayed
+pub mod Claims

@@ -1,3 +1,0 @@
-pub mod Serving
-pub mod Claims
-pub mod Writes

@@ -1,0 +1,141 @@
+// The program: calls from a reader, answers to a writer. The answers to the lines that a read completed are written before the next read.
+// A read that a signal interrupts is repeated. A read or a write that fails is said on standard error, with the system's words, and ends
+// the loop.
+#![tactic(auto)]
+
+ghost use Rattle.std.specs.Prelude.{◌≡◌, OnOk, IfSome};
+ghost use Rattle.std.specs.Io.KnownBytes.{Appends};
+ghost use Rattle.run.specs.Run.{Fed, program};
+ghost use Rattle.conversation.specs.Pouring.{AppendsFront};
+ghost use Rattle.service.specs.Calls.{new_run, HearsCalls, EndsCalls, answers_from};
+ghost use Rattle.service.specs.Served.{ServedNew};
+
+use conversation::{Stop, Teller, converse};
+use keys::{ROWS, SLOTS};
+use lookup::{TABLE_SIZE, digit_tables};
+use run::{Session, new_session, run_end, run_piece};
+use std::io::{self, Read, Write};
+use std::marker::Model;
+
+// What one read brings at most.
+const PIECE: usize = 16384;
+
+// Room for an answer to each byte of a piece, since each may be a newline.
+const ANSWERS: usize = PIECE * 17;
+
+// A run over the input: its machine as the lent arrays and the session, the digit tables, and the answers to the last piece, `len` bytes at
+// the front of `out`.
+#[derive(Drop)]
+pub struct CallTeller {
+    keys: [u64; SLOTS],
+    rows: [u32; ROWS],
+    session: Session,
+    tables: [u16; TABLE_SIZE],
+    out: [u8; ANSWERS],
+    len: usize,
+}
+
+// The run, and what its last piece wrote.
+impl Model for CallTeller {
+    ghost use Rattle.std.specs.Prelude.{◌≡◌, ◌≤◌, length, take};
+    ghost use Rattle.hex_digits.specs.Hex.{digit_tables};
+    ghost use Rattle.run.specs.Run.{Fed};
+    ghost use Rattle.run.specs.Session.{runner_in, SoundSession};
+
+    ghost Value = { Fed };
+
+    ghost view = { λ c. record { runner = runner_in c.keys c.rows c.session; written = take c.len c.out } };
+
+    ghost invariant = { λ c. SoundSession c.keys c.rows c.session × (c.tables ≡ digit_tables) × (c.len ≤ length c.out) };
+}
+
+impl CallTeller {
+    // The new machine, before any line.
+    pub fn new() -> CallTeller
+        ensures { result ≡ new_run }
+    {
+        CallTeller {
+            keys: [0; SLOTS],
+            rows: [0; ROWS],
+            session: new_session(),
+            tables: digit_tables(),
+            out: [0; ANSWERS],
+            len: 0,
+        }
+    }
+}
+
+impl Teller for CallTeller {
+    ghost use Rattle.std.specs.Prelude.{[]};
+    ghost use Rattle.service.specs.Calls.{HearsCalls, EndsCalls, answers_from};
+    ghost use Rattle.service.specs.Laws.{calls-hear-on, calls-end-so};
+
+    ghost Hears = { HearsCalls };
+
+    ghost Ends = { EndsCalls };
+
+    ghost output = { λ s. s.written };
+
+    ghost messages = { λ s. [] };
+
+    ghost tells = { λ s rest. answers_from s.runner rest };
+
+    ghost complains = { λ s rest. [] };
+
+    ghost room = { 16384 };
+
+    ghost hears_on = { calls-hear-on };
+
+    ghost ends_so = { calls-end-so };
+
+    fn hear(&mut self, piece: &[u8]) {
+        let ran = run_piece(
+            &mut self.keys,
+            &mut self.rows,
+            self.session,
+            &self.tables,
+            piece,
+            &mut self.out,
+        );
+        self.session = ran.session;
+        self.len = ran.len;
+    }
+
+    // A last line that lacks its newline is answered as if it had one.
+    fn end(&mut self) {
+        let last = run_end(
+            &mut self.keys,
+            &mut self.rows,
+            self.session,
+            &self.tables,
+            &mut self.out,
+        );
+        self.session = last.session;
+        self.len = last.len;
+    }
+
+    fn output(&self) -> &[u8] {
+        &self.out[..self.len]
+    }
+
+    fn messages(&self) -> &[u8] {
+        &[]
+    }
+}
+
+// Answers every line of the input, those that a read completed before the next read, from the new machine.
+pub fn serve<R: Read, W: Write>(rt: &impl Eprint, input: &mut R, output: &mut W) -> Result<(), Stop>
+    ensures served { ServedNew (R.remaining input.old) (R.remaining input.new) (W.contents output.old) (W.contents output.new) result }
+    ensures all { OnOk result (IfSome (R.remaining input.old) (λ bytes.
+        Appends (W.contents output.old) (W.contents output.new) (program bytes))) }
+    ensures beginning { IfSome (R.remaining input.old) (λ bytes.
+        AppendsFront (W.contents output.old) (W.contents output.new) (program bytes)) }
+{
+    let mut piece = [0u8; PIECE];
+    let mut teller = CallTeller::new();
+    let ended = converse(&mut teller, &mut piece, input, output, &mut io::sink());
+    if let Err(stop) = ended {
+        let _ = eprintln!(rt; "picman: {stop}");
+    }
+    ended
+}
