@@ -12,6 +12,7 @@ use borrow.Author.Tests.{lt-ltb}
 use Rattle.seq.proofs.Tests.{lt-or-ge}
 use Rattle.buffer.specs.Buffer.{is_newline, last_line, lines_from}
 use Rattle.answers.proofs.AnswersRead.{other_length}
+use Rattle.commands.specs.declared.Expected.{Expected}
 use Rattle.expecting.specs.Expected.{expected_words}
 use Rattle.asking.specs.Asked.{Texts, texts, asked}
 use Rattle.saying.specs.Words.{bad_line_words, said_line}
@@ -20,7 +21,7 @@ use Rattle.spots.specs.Spots.{next_number}
 use Rattle.telling.specs.Told.{told, joined, told_lines}
 use Rattle.telling.specs.Telling.{kept, Speaker, speaker, Fed, fed, feed_byte, feed}
 
-asked-long : (number : ℕ) (line : List ℕ) → 1023 < length line → asked number line ≡ texts [] (expected_words number 13)
+asked-long : (number : ℕ) (line : List ℕ) → 1023 < length line → asked number line ≡ texts [] (expected_words number Expected.ShorterLine)
 unfolding asked
 asked-long number line h = rw (lt-ltb 1023 (length line) h)
 
