@@ -9,7 +9,7 @@ ghost use Rattle.questions.specs.Asked.{reason_length, why_left, shown_why, why_
 use def::RefpCall;
 use explaining::evc_picman_why;
 use image::is_image;
-use image_reading::read_pm;
+use image::reading::read_pm;
 use line::BAD_LINE;
 use questions::{Question, REASON_LENGTH, question_in, show_why};
 
