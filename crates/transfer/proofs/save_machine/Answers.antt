@@ -17,13 +17,13 @@ returns-then-not-is_whole c =
 pub poc_of-poc-requires : goal.poc_of-poc-requires
 poc_of-poc-requires c = (registers_long c.args.keys.now c.args.rows.now c.args.registers.now c.requires.0)
 
-pub put_machine-m-requires : goal.put_machine-m-requires
-put_machine-m-requires c =
+pub put_machine-requires : goal.put_machine-requires
+put_machine-requires c =
     record { sized = (arrays-sized c.args.keys.now c.args.rows.now c.args.registers.now c.requires.0); whole_state = sym (c.is_whole.ensures c.args.rows.now) ∙ c.if-not-is_whole.false }
 
 pub returns : goal.returns
 returns c =
     save-done _ _ _ _ c.requires.0 c.requires.1
     (rw c.rest_of-rest.ensures at (sym (c.is_whole.ensures c.args.rows.now) ∙ c.if-not-is_whole.false)) _ _
-    c.put_machine-m.ensures (sym c.rest_of-rest.ensures) (sym c.poc_of-poc.ensures) _
+    c.put_machine.ensures (sym c.rest_of-rest.ensures) (sym c.poc_of-poc.ensures) _
     c.write_machine.ensures.bytes c.write_machine.ensures.holds
