@@ -31,7 +31,12 @@ fn state_is_whole(m: Machine) -> bool
 }
 
 // Arrays of the right sizes get the machine of an image that was found to be one.
-fn load_image(keys: &mut [u64], rows: &mut [u32], registers: &mut [u32], image: &[u8]) -> Result<(), Refusal>
+fn load_image(
+    keys: &mut [u64],
+    rows: &mut [u32],
+    registers: &mut [u32],
+    image: &[u8],
+) -> Result<(), Refusal>
     requires { (sized (slices keys.old rows.old registers.old) ≡ true) × (is_image image.now ≡ true) }
     ensures { Loads (status result) keys.old rows.old registers.old image.now
         keys.new rows.new registers.new }
@@ -46,7 +51,12 @@ fn load_image(keys: &mut [u64], rows: &mut [u32], registers: &mut [u32], image: 
 }
 
 // The arrays get the machine of an image.
-pub fn load(keys: &mut [u64], rows: &mut [u32], registers: &mut [u32], image: &[u8]) -> Result<(), Refusal>
+pub fn load(
+    keys: &mut [u64],
+    rows: &mut [u32],
+    registers: &mut [u32],
+    image: &[u8],
+) -> Result<(), Refusal>
     ensures { Loads (status result) keys.old rows.old registers.old image.now
         keys.new rows.new registers.new }
 {
@@ -60,7 +70,12 @@ pub fn load(keys: &mut [u64], rows: &mut [u32], registers: &mut [u32], image: &[
 }
 
 // An image of the right size gets the machine of arrays of the right sizes.
-fn save_machine(keys: &[u64], rows: &[u32], registers: &[u32], image: &mut [u8]) -> Result<(), Refusal>
+fn save_machine(
+    keys: &[u64],
+    rows: &[u32],
+    registers: &[u32],
+    image: &mut [u8],
+) -> Result<(), Refusal>
     requires { (sized (slices keys.now rows.now registers.now) ≡ true) × (length image.old ≡ image_length) }
     ensures { Saves (status result) keys.now rows.now registers.now image.old
         image.new }
