@@ -17,7 +17,7 @@ use Rattle.line.specs.declared.{Line.Line}
 use Rattle.reasons.specs.declared.{WhyAnswer.WhyAnswer}
 use Rattle.reasons.specs.Reasons.{why_whole, why}
 use Rattle.machine.specs.Lent.{slices, sized}
-use Rattle.questions.specs.declared.Question.{Question}
+use Rattle.std.specs.Prelude.{Option}
 use Rattle.questions.specs.Asked.{question_in, reason_length, why_asked, bad_why, if_fits}
 
 module _ (fit : Bool) (pm : EvcPm) (line : Line) (slot : ℕ) (reason : List ℕ) where
@@ -28,7 +28,7 @@ module _ (fit : Bool) (pm : EvcPm) (line : Line) (slot : ℕ) (reason : List ℕ
     pub no_room : (length reason ≡ reason_length → ⊥) → bad_why reason ≡ if_fits fit pm line slot reason
     no_room n = rw (e, ne_eqb (length reason) reason_length n)
 
-    pub all-fits : {q : Question} → length reason ≡ reason_length → question_in line ≡ q → why_asked pm q slot reason ≡ if_fits fit pm line slot reason
+    pub all-fits : {q : Option RefpCall} → length reason ≡ reason_length → question_in line ≡ q → why_asked pm q slot reason ≡ if_fits fit pm line slot reason
     all-fits n l = rw (e, eq-eqb (length reason) reason_length n, l)
 
 -- ---- slices of the right sizes

@@ -29,19 +29,19 @@ ask_slices-requires c =
       c.if-reason-ne-REASON_LENGTH.false,
     )
 
-pub returns-in-Lists : goal.returns-in-Lists
+pub returns-in-Some : goal.returns-in-Some
 unfolding why_of_slices
-returns-in-Lists c =
+returns-in-Some c =
     let a = c.args in
     c.ask_slices.ensures a.rows.now
     ∙ all-fits _ (machine_at (slices a.keys.now a.rows.now a.registers.now)).pm (call_from a.call.now) a.slot a.reason.now
     (sym c.is_sized.ensures ∙ c.if-not-is_sized.false) c.if-reason-ne-REASON_LENGTH.false
-    (sym c.question_in-question.ensures ∙ c.in-Lists.is)
+    (sym c.question_in.ensures ∙ c.in-Some.is)
 
-pub returns-in-Other : goal.returns-in-Other
+pub returns-in-None : goal.returns-in-None
 unfolding why_of_slices
-returns-in-Other c =
+returns-in-None c =
     let a = c.args in
     all-fits _ (machine_at (slices a.keys.now a.rows.now a.registers.now)).pm (call_from a.call.now) a.slot a.reason.now
     (sym c.is_sized.ensures ∙ c.if-not-is_sized.false) c.if-reason-ne-REASON_LENGTH.false
-    (sym c.question_in-question.ensures ∙ c.in-Other.is)
+    (sym c.question_in.ensures ∙ c.in-None.is)
