@@ -17,6 +17,7 @@ use call_lines::{get_line, init_line, lists_line, out_line, put_line};
 use one_entry::place_entry;
 use recording::derive_on;
 use renewing::renew;
+use statuses::status_of;
 use wire::call_bytes;
 
 // Writes the new machine, all zero, whatever stood there: 0.
@@ -30,7 +31,7 @@ pub extern "C" fn picman_machine_new(
         let after = slices keys.new rows.new registers.new in
         Renewed result before after }
 {
-    renew(keys, rows, registers)
+    status_of(renew(keys, rows, registers))
 }
 
 // Sets the limits of store and lists; the step of output becomes 1, and a leased picture is given up.
