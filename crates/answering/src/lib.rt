@@ -8,7 +8,7 @@ ghost use Rattle.answering.specs.Answered.{answer_word, OnSlices};
 use line::{Line, Reply};
 use running::reply_on;
 
-// A reply as one number.
+// A reply as one number, the form in which C gets it.
 pub fn answer_word(reply: Reply) -> u64
     ensures { result ≡ answer_word reply }
 {

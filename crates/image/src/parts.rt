@@ -13,6 +13,7 @@ use flags::{flag_byte, read_flag};
 use std::array;
 use words::{read_word, write_word};
 
+// Each field stands at its own offset, read and written in one line each: a slice for each field would say no more.
 pub trait Part {
     const WIDTH: usize;
 

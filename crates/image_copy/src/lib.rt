@@ -40,7 +40,7 @@ fn copy_entry(image: &mut [u8], cnt: u64, lidx: u64, entry: &[u8]) -> u8
     reply_of(0, copied.answer).status
 }
 
-// Writes an entry at place `cnt` of one list: 0, or 13 or 14.
+// Writes an entry at place `cnt` of one list: 0, or 13 or 14. A copy answers as the other calls do, and gives the status of its answer's line.
 pub fn copy_image(image: &mut [u8], cnt: u64, lidx: u64, entry: &[u8]) -> u8
     ensures { Copies result image.old cnt lidx entry.now image.new }
 {

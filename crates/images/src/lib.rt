@@ -56,7 +56,8 @@ fn answer_bad(answer: &mut [u8]) -> u8
     BAD_LINE
 }
 
-// One call: the bytes of a call line, check byte too, not in hex. Writes the answer and gives its status.
+// One call: the bytes of a call line, check byte too, not in hex. Writes the answer and gives its status, which is the answer's own byte and also
+// says that no picture comes.
 pub fn call_image(image: &mut [u8], call: &[u8], answer: &mut [u8]) -> u8
     ensures { Answers result image.old call.now answer.old
         image.new answer.new }

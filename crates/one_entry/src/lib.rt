@@ -22,7 +22,8 @@ fn head_from(present: u8, buf: u8) -> u32
     2 * u32::from(buf) + u32::from(present)
 }
 
-// Writes an entry at place `cnt` of list `lidx`: 0, 13 or 14, or 18 where a size or the flag does not fit.
+// Writes an entry at place `cnt` of list `lidx`: 0, 13 or 14, or 18 where a size or the flag does not fit. A copy answers as
+// the other calls do, and gives the status of its answer's line.
 pub fn place_entry(
     rows: &mut [u32],
     cnt: u64,

@@ -42,6 +42,7 @@ pub fn question_in(call: &[u8]) -> Option<RefpCall>
     }
 }
 
+// By a table: one of them carries a place, so that they have no numbers of their own.
 fn reason_number(told: Reason) -> u8
     ensures { result ≡ reason_number told }
 {

@@ -26,11 +26,9 @@ fn write_record(registers: &mut [u32], poc: EvcPoc)
     requires { length registers.old ≡ registers_length }
     ensures { Recorded registers.old registers.new poc }
 {
-    let number = poc.poc_val.0;
-    let offset = poc.prev_doc_offset.0;
-    registers[3] = twos_complement(number);
+    registers[3] = twos_complement(poc.poc_val.0);
     registers[4] = poc.prev_poc_val;
-    registers[5] = twos_complement(offset);
+    registers[5] = twos_complement(poc.prev_doc_offset.0);
 }
 
 // A derivation that is turned down leaves the registers unwritten.
@@ -41,15 +39,12 @@ fn derive_record(registers: &mut [u32], log2_sub_gop_length: u8, tid: u8) -> Rep
         let call = PocDerivation log2_sub_gop_length tid in
         ((keys rows : List ℕ) → Sized keys rows → CallLeaves result call (slices keys rows before) (slices keys rows after)) }
 {
-    let before = poc_of(registers);
-    let derived = poc_derivation(log2_sub_gop_length, tid, before);
-    let answer = derived.answer;
-    let reply = derived_reply(answer);
+    let derived = poc_derivation(log2_sub_gop_length, tid, poc_of(registers));
+    let reply = derived_reply(derived.answer);
     if is_refusal_number(reply.status) {
         return reply;
     }
-    let after = derived.poc;
-    write_record(registers, after);
+    write_record(registers, derived.poc);
     reply
 }
 

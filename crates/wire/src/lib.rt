@@ -18,7 +18,8 @@ pub fn write_answer(answer: &mut [u8], reply: Reply)
     answer.copy_from_slice(&replies::answer_bytes(reply));
 }
 
-// The status of the answer that is written. With a wrong size 18, and nothing is written, the answer neither.
+// The status of the answer that is written. With a wrong size 18, and nothing is written, the answer neither. The status is the answer's own byte,
+// which also says that no picture comes, so that it is given as it is.
 pub fn call_bytes(
     keys: &mut [u64],
     rows: &mut [u32],

@@ -3,7 +3,8 @@ use mathlib.Core.Path.{sym, ◌∙◌}
 use Rattle.line.specs.Calls.{call_from}
 use Rattle.machine.specs.Lent.{slices, machine_at}
 use Rattle.questions.specs.Asked.{why_of_slices}
-use Rattle.questions.proofs.Fitting.{no-fit, no_room, all-fits, keys-fit, registers-fit}
+use Rattle.questions.proofs.Fitting.{no-fit, no_room, all-fits}
+use Rattle.sizing.proofs.Sized.{sized-long}
 use Rattle.machine_why.proofs.why_of_slices.Goals as goal
 
 pub returns-then-not-is_sized : goal.returns-then-not-is_sized
@@ -23,11 +24,8 @@ returns-then-reason-ne-REASON_LENGTH c =
 pub ask_slices-requires : goal.ask_slices-requires
 ask_slices-requires c =
     let a = c.args in
-    let sized = sym c.is_sized.ensures ∙ c.if-not-is_sized.false in (
-      keys-fit a.keys.now a.rows.now a.registers.now sized,
-      registers-fit a.keys.now a.rows.now a.registers.now sized,
-      c.if-reason-ne-REASON_LENGTH.false,
-    )
+    let long = sized-long (slices a.keys.now a.rows.now a.registers.now) (sym c.is_sized.ensures ∙ c.if-not-is_sized.false) in
+    (long.0.slots_long, long.1, c.if-reason-ne-REASON_LENGTH.false)
 
 pub returns-in-Some : goal.returns-in-Some
 unfolding why_of_slices
