@@ -8,17 +8,11 @@ ghost use Rattle.answering.specs.Answered.{answer_word, OnSlices};
 use line::{Line, Reply};
 use running::reply_on;
 
-fn wide(n: u32) -> u64
-    ensures { result ≡ n }
-{
-    n as u64
-}
-
-// A reply as one number.
+// A reply as one number, the form in which C gets it.
 pub fn answer_word(reply: Reply) -> u64
     ensures { result ≡ answer_word reply }
 {
-    wide(reply.value) * 0x1_0000_0000 + reply.buf as u64 * 256 + reply.status as u64
+    u64::from(reply.value) * 0x1_0000_0000 + u64::from(reply.buf) * 256 + u64::from(reply.status)
 }
 
 pub fn answer_on(keys: &mut [u64], rows: &mut [u32], registers: &mut [u32], line: Line) -> u64

@@ -6,27 +6,26 @@ ghost use Rattle.std.specs.Prelude.{◌≡◌, length};
 ghost use Rattle.image.specs.Image.{image_length};
 ghost use Rattle.exchange.specs.Lent.{machine_of, machine_bytes, ImageHolds};
 
-use image_reading::{read_pm, read_poc, read_refps};
-use image_writing::write_image;
+use image::reading::{read_pm, read_poc, read_refps};
+use image::writing::write_image;
 use machine::Machine;
 
 pub fn read_machine(image: &[u8]) -> Machine
     requires { length image.now ≡ image_length }
     ensures { result ≡ machine_of image.now }
 {
-    let pm = read_pm(image);
-    let refp = read_refps(image);
-    let poc = read_poc(image);
-    Machine { pm, refp, poc }
+    Machine {
+        pm: read_pm(image),
+        refp: read_refps(image),
+        poc: read_poc(image),
+    }
 }
 
+// The machine comes by value: of what stands behind a reference the proof would not know that each number fits its width.
 pub fn write_machine(image: &mut [u8], machine: Machine)
     requires { length image.old ≡ image_length }
     ensures bytes { image.new ≡ machine_bytes machine }
     ensures holds { ImageHolds image.new machine }
 {
-    let pm = machine.pm;
-    let refp = machine.refp;
-    let poc = machine.poc;
-    write_image(image, pm, refp, poc);
+    write_image(image, &machine.pm, &machine.refp, machine.poc);
 }

@@ -2,3 +2,5 @@ pub mod BytesKept
 pub mod BytesFit
 pub mod ContentsKept
 pub mod ContentsImage
+mod Made
+mod Tested

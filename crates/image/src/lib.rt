@@ -1,5 +1,5 @@
-// The image that the library lends to C: state, lists and record as 6,407 bytes, big-endian.
-// Which bytes are an image, and in specs/ what they stand for and how they are written. Every call on an image asks this first.
+// The image that the library lends to C: state, lists and record as 6,407 bytes, big-endian. Which bytes are an image, what they stand for and how
+// they are written. Every call on an image asks first whether its bytes are one.
 #![tactic(auto)]
 
 ghost use Rattle.std.specs.Prelude.{◌≡◌, ◌+◌, ◌*◌, ◌≤◌, ◌<◌, length};
@@ -10,7 +10,10 @@ ghost use Rattle.image.specs.Image.{slot_width, refp_width, refp_place, image_le
 use crate::places::{IMAGE_LENGTH, REFP_PLACE, REFP_WIDTH, SLOT_WIDTH};
 use def::{MAX_PB_SIZE, REFP_PLACES};
 
+pub mod parts;
 pub mod places;
+pub mod reading;
+pub mod writing;
 
 pub fn is_flag(image: &[u8], at: usize) -> bool
     requires { at < length image.now }
@@ -31,26 +34,14 @@ fn slots_flagged(image: &[u8]) -> bool
     requires { length image.now ≡ image_length }
     ensures { result ≡ all_of (slot_flags image.now) (row_at (λ i. i) slot_width 0 (slots + 1)) }
 {
-    let mut ok = true;
-    let mut i = 0;
-    while i < MAX_PB_SIZE + 1 {
-        ok = ok & slot_flags(image, SLOT_WIDTH * i);
-        i = i + 1;
-    }
-    ok
+    (0..MAX_PB_SIZE + 1).all(|i| slot_flags(image, SLOT_WIDTH * i))
 }
 
 fn refps_flagged(image: &[u8]) -> bool
     requires { length image.now ≡ image_length }
     ensures { result ≡ all_of (is_flag image.now) (row_at (λ i. i) refp_width refp_place (2 * list_places)) }
 {
-    let mut ok = true;
-    let mut i = 0;
-    while i < REFP_PLACES {
-        ok = ok & is_flag(image, REFP_PLACE + REFP_WIDTH * i);
-        i = i + 1;
-    }
-    ok
+    (0..REFP_PLACES).all(|i| is_flag(image, REFP_PLACE + REFP_WIDTH * i))
 }
 
 // Any bytes may be asked.
@@ -58,8 +49,5 @@ fn refps_flagged(image: &[u8]) -> bool
 pub fn is_image(image: &[u8]) -> bool
     ensures { result ≡ is_image image.now }
 {
-    if image.len() != IMAGE_LENGTH {
-        return false;
-    }
-    slots_flagged(image) & refps_flagged(image)
+    image.len() == IMAGE_LENGTH && slots_flagged(image) && refps_flagged(image)
 }

@@ -8,19 +8,18 @@ ghost use Rattle.exchange.specs.Lent.{left, machine_of, ImageHolds};
 ghost use Rattle.image_copy.specs.Copied.{is_entry, copy_into, with_lists, relisted, Copies};
 
 use copying::check_copy_refp;
+use def::EvcRefP;
 use exchange::{read_machine, write_machine};
+use image::parts::Part;
 use image::places::REFP_WIDTH;
 use image::{is_flag, is_image};
-use image_reading::read_refp;
 use line::{BAD_LINE, reply_of};
+use machine::Machine;
 
 fn is_entry(entry: &[u8]) -> bool
     ensures { result ≡ is_entry entry.now }
 {
-    if entry.len() != REFP_WIDTH {
-        return false;
-    }
-    is_flag(entry, 0)
+    entry.len() == REFP_WIDTH && is_flag(entry, 0)
 }
 
 // Copy on an image and an entry that are what they must be.
@@ -33,18 +32,15 @@ fn copy_entry(image: &mut [u8], cnt: u64, lidx: u64, entry: &[u8]) -> u8
         ImageHolds image.new (with_lists (machine_of image-in) lists) }
 {
     let machine = read_machine(image);
-    let refp = machine.refp;
-    let src = read_refp(entry, 0);
-    let copied = check_copy_refp(refp, cnt, lidx, src);
-    let lists = copied.refp;
-    let mut after = machine;
-    after.refp = lists;
+    let src = EvcRefP::read(entry, 0);
+    let copied = check_copy_refp(machine.refp, cnt, lidx, src);
+    let refp = copied.refp;
+    let after = Machine { refp, ..machine };
     write_machine(image, after);
-    let answer = copied.answer;
-    reply_of(0, answer).status
+    reply_of(0, copied.answer).status
 }
 
-// Writes an entry at place `cnt` of one list: 0, or 13 or 14.
+// Writes an entry at place `cnt` of one list: 0, or 13 or 14. A copy answers as the other calls do, and gives the status of its answer's line.
 pub fn copy_image(image: &mut [u8], cnt: u64, lidx: u64, entry: &[u8]) -> u8
     ensures { Copies result image.old cnt lidx entry.now image.new }
 {

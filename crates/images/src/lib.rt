@@ -5,6 +5,7 @@
 #![tactic(auto)]
 
 ghost use Rattle.std.specs.Prelude.{◌≡◌, length};
+ghost use Rattle.statuses.specs.Statuses.{status};
 ghost use Rattle.line.specs.Answers.{bad_line_reply};
 ghost use Rattle.image.specs.Image.{image_length};
 ghost use Rattle.machine.specs.Step.{step};
@@ -12,7 +13,7 @@ ghost use Rattle.exchange.specs.Lent.{bad_line, machine_of, ImageHolds};
 ghost use Rattle.wire.specs.Wire.{answer_length, answer_bytes};
 ghost use Rattle.images.specs.Called.{answered, replied, Renews, Answers};
 
-use def::DONE;
+use def::Refusal;
 use exchange::{read_machine, write_machine};
 use image::is_image;
 use image::places::IMAGE_LENGTH;
@@ -22,16 +23,15 @@ use parsing::read_call;
 use stepping::step;
 use wire::{ANSWER_LENGTH, write_answer};
 
-// Writes the new machine, whatever the image held: 0.
-pub fn renew_image(image: &mut [u8]) -> u8
-    ensures { Renews result image.old image.new }
+// Writes the new machine, whatever the image held.
+pub fn renew_image(image: &mut [u8]) -> Result<(), Refusal>
+    ensures { Renews (status result) image.old image.new }
 {
     if image.len() != IMAGE_LENGTH {
-        return BAD_LINE;
+        return Err(Refusal::BadLine);
     }
-    let machine = new_machine();
-    write_machine(image, machine);
-    DONE
+    write_machine(image, new_machine());
+    Ok(())
 }
 
 // A good call on buffers that are what they must be.
@@ -42,12 +42,10 @@ fn answer_good(image: &mut [u8], call: Call, answer: &mut [u8]) -> u8
     ensures holds { ImageHolds image.new (step (machine_of image.old) call).machine }
 {
     let before = read_machine(image);
-    let stepped = step(before, call);
-    let next = stepped.machine;
-    let reply = stepped.reply;
-    write_machine(image, next);
-    write_answer(answer, reply);
-    reply.status
+    let next = step(before, call);
+    write_machine(image, next.machine);
+    write_answer(answer, next.reply);
+    next.reply.status
 }
 
 fn answer_bad(answer: &mut [u8]) -> u8
@@ -58,7 +56,8 @@ fn answer_bad(answer: &mut [u8]) -> u8
     BAD_LINE
 }
 
-// One call: the bytes of a call line, check byte too, not in hex. Writes the answer and gives its status.
+// One call: the bytes of a call line, check byte too, not in hex. Writes the answer and gives its status, which is the answer's own byte and also
+// says that no picture comes.
 pub fn call_image(image: &mut [u8], call: &[u8], answer: &mut [u8]) -> u8
     ensures { Answers result image.old call.now answer.old
         image.new answer.new }
@@ -69,8 +68,7 @@ pub fn call_image(image: &mut [u8], call: &[u8], answer: &mut [u8]) -> u8
     if answer.len() != ANSWER_LENGTH {
         return BAD_LINE;
     }
-    let line = read_call(call);
-    match line {
+    match read_call(call) {
         Line::Good(good) => answer_good(image, good, answer),
         Line::Bad => answer_bad(answer),
     }

@@ -2,6 +2,7 @@
 #![tactic(auto)]
 
 ghost use Rattle.std.specs.Prelude.{◌≡◌, List, ℕ, length};
+ghost use Rattle.statuses.specs.Statuses.{status};
 ghost use Rattle.def.specs.State.{slots};
 ghost use Rattle.reasons.specs.Reasons.{why};
 ghost use Rattle.keys.specs.Keys.{stands};
@@ -12,8 +13,7 @@ ghost use Rattle.questions.specs.Asked.{reason_length, why_left, shown_why, why_
 use def::{RefpCall, Refusal};
 use judging::why_on;
 use keys::{PLACES, SLOTS};
-use line::BAD_LINE;
-use questions::{Question, REASON_LENGTH, question_in, show_why};
+use questions::{REASON_LENGTH, question_in, show_why};
 use reasons::WhyAnswer;
 use registers::rest_of;
 use sizing::is_sized;
@@ -34,19 +34,25 @@ fn slices_answer(keys: &[u64], registers: &[u32], call: RefpCall, slot: u8) -> W
 }
 
 // A list request, of slices of the right sizes.
-fn ask_slices(keys: &[u64], registers: &[u32], call: RefpCall, slot: u8, reason: &mut [u8]) -> u8
+fn ask_slices(
+    keys: &[u64],
+    registers: &[u32],
+    call: RefpCall,
+    slot: u8,
+    reason: &mut [u8],
+) -> Result<(), Refusal>
     requires { (length keys.now ≡ slots)
         × (length registers.now ≡ registers_length)
         × (length reason.old ≡ reason_length) }
     ensures { let keys_in = keys.now in
         let rest = rest_of registers.now in
         ((rows : List ℕ) →
-        why_left result reason.new ≡ shown_why (why (stands keys_in rows rest) call slot) reason.old) }
+        why_left (status result) reason.new ≡ shown_why (why (stands keys_in rows rest) call slot) reason.old) }
 {
     show_why(reason, slices_answer(keys, registers, call, slot))
 }
 
-// Of the running machine: 0 and the reason, or the refusal.
+// Of the running machine: the reason is written, or nothing is.
 pub fn why_of_slices(
     keys: &[u64],
     rows: &[u32],
@@ -54,19 +60,18 @@ pub fn why_of_slices(
     call: &[u8],
     slot: u8,
     reason: &mut [u8],
-) -> u8
+) -> Result<(), Refusal>
     ensures { let machine = slices keys.now rows.now registers.now in
-        why_left result reason.new ≡ why_of_slices machine call.now slot reason.old }
+        why_left (status result) reason.new ≡ why_of_slices machine call.now slot reason.old }
 {
     if !is_sized(keys, rows, registers) {
-        return BAD_LINE;
+        return Err(Refusal::BadLine);
     }
     if reason.len() != REASON_LENGTH {
-        return BAD_LINE;
+        return Err(Refusal::BadLine);
     }
-    let question = question_in(call);
-    match question {
-        Question::Lists(lists) => ask_slices(keys, registers, lists, slot, reason),
-        Question::Other => BAD_LINE,
+    match question_in(call) {
+        Some(lists) => ask_slices(keys, registers, lists, slot, reason),
+        None => Err(Refusal::BadLine),
     }
 }

@@ -1,8 +1,7 @@
 // The copy of one entry, given by its fields, into the lists of the running machine. It has to do with the lists alone.
 #![tactic(auto)]
 
-ghost use Rattle.std.specs.Prelude.{◌≡◌, ◌+◌, ◌*◌, length};
-ghost use Rattle.def.specs.State.{list_places};
+ghost use Rattle.std.specs.Prelude.{◌≡◌, ◌+◌, ◌*◌};
 ghost use Rattle.keys.specs.Keys.{lists_in};
 ghost use Rattle.refp.specs.Copy.{copy};
 ghost use Rattle.one_entry.specs.OneEntry.{entry_given, fits, rows_placed, EntryPlaced};
@@ -16,27 +15,15 @@ fn is_fit(rows: &[u32], present: u8, list_poc: &[u32]) -> bool
     (rows.len() == ROWS) & (list_poc.len() == ROW) & (present < 2)
 }
 
-fn numbers_of(list_poc: &[u32]) -> [u32; ROW]
-    requires { length list_poc.now ≡ list_places }
-    ensures { result ≡ list_poc.now }
-{
-    let mut numbers = [0u32; ROW];
-    let mut i: usize = 0;
-    while i < ROW {
-        numbers[i] = list_poc[i];
-        i = i + 1;
-    }
-    numbers
-}
-
 // Twice the buffer number plus the flag, as the rows have it.
 fn head_from(present: u8, buf: u8) -> u32
     ensures { result ≡ 2 * buf + present }
 {
-    2 * (buf as u32) + present as u32
+    2 * u32::from(buf) + u32::from(present)
 }
 
-// Writes an entry at place `cnt` of list `lidx`: 0, 13 or 14, or 18 where a size or the flag does not fit.
+// Writes an entry at place `cnt` of list `lidx`: 0, 13 or 14, or 18 where a size or the flag does not fit. A copy answers as
+// the other calls do, and gives the status of its answer's line.
 pub fn place_entry(
     rows: &mut [u32],
     cnt: u64,
@@ -56,7 +43,8 @@ pub fn place_entry(
     if !is_fit(rows, present, list_poc) {
         return BAD_LINE;
     }
-    let numbers = numbers_of(list_poc);
+    let mut numbers = [0; ROW];
+    numbers.copy_from_slice(list_poc);
     let head = head_from(present, buf);
     let answer = adding::copy_refp(rows, cnt, lidx, head, poc, &numbers);
     line::reply_of(0, answer).status

@@ -1,6 +1,8 @@
 // The running machine for C: three slices that the caller owns, keys, rows and registers, on which calls work in place, with any bits in them.
 // One function for each call, with plain numbers, and one for the bytes of a call line; all are thin over crates `call_lines` and `answering`,
 // `recording`, `renewing`, `one_entry` and `wire`.
+#![tactic(auto, using(answering::proofs::OnLine::on_line))]
+
 ghost use Rattle.keys.specs.Keys.{lists_in};
 ghost use Rattle.line.specs.declared.Call.TheVariants.{Init, GetEmptyPic, OutPic, RefpInit, PocDerivation};
 ghost use Rattle.line.specs.declared.Line.TheVariants.{Good};
@@ -17,6 +19,7 @@ use call_lines::{get_line, init_line, lists_line, out_line, put_line};
 use one_entry::place_entry;
 use recording::derive_on;
 use renewing::renew;
+use statuses::status_of;
 use wire::call_bytes;
 
 // Writes the new machine, all zero, whatever stood there: 0.
@@ -30,7 +33,7 @@ pub extern "C" fn picman_machine_new(
         let after = slices keys.new rows.new registers.new in
         Renewed result before after }
 {
-    renew(keys, rows, registers)
+    status_of(renew(keys, rows, registers))
 }
 
 // Sets the limits of store and lists; the step of output becomes 1, and a leased picture is given up.

@@ -1,6 +1,8 @@
 // The running machine from an image and to it.
 ghost use Rattle.transfer.specs.Exchanged.{Loads, Saves};
 
+use statuses::status_of;
+
 // The arrays get the machine of an image: 0. A size that does not fit and bytes that are no image give 18, a state that is not whole 7.
 #[unsafe(no_mangle)]
 pub extern "C" fn picman_machine_load(
@@ -12,7 +14,7 @@ pub extern "C" fn picman_machine_load(
     ensures { Loads result keys.old rows.old registers.old image.now
         keys.new rows.new registers.new }
 {
-    transfer::load(keys, rows, registers, image)
+    status_of(transfer::load(keys, rows, registers, image))
 }
 
 // The image gets the machine of the arrays: 0. A size that does not fit gives 18, a state that is not whole 7.
@@ -26,5 +28,5 @@ pub extern "C" fn picman_machine_save(
     ensures { Saves result keys.now rows.now registers.now image.old
         image.new }
 {
-    transfer::save(keys, rows, registers, image)
+    status_of(transfer::save(keys, rows, registers, image))
 }

@@ -15,12 +15,14 @@ ghost use Rattle.images.specs.Called.{Renews, Answers};
 ghost use Rattle.image_copy.specs.Copied.{Copies};
 ghost use Rattle.depths.specs.Depths.{depth_or_zero};
 
+use statuses::status_of;
+
 // Writes the new machine, whatever the image held: 0.
 #[unsafe(no_mangle)]
 pub extern "C" fn picman_new(image: &mut [u8]) -> u8
     ensures { Renews result image.old image.new }
 {
-    images::renew_image(image)
+    status_of(images::renew_image(image))
 }
 
 // One call: the bytes of a call line, check byte too, not in hex. Writes the answer and gives its status.

@@ -5,6 +5,7 @@ ghost use Rattle.questions.specs.Asked.{why_left, why_of_image, why_of_slices};
 
 use image_why::why_of_image;
 use machine_why::why_of_slices;
+use statuses::status_of;
 
 // Of the state of an image: 0 and the two bytes of the reason, or the refusal.
 #[unsafe(no_mangle)]
@@ -12,7 +13,7 @@ pub extern "C" fn picman_why(image: &[u8], call: &[u8], slot: u8, reason: &mut [
     ensures { why_left result reason.new
         ≡ why_of_image image.now call.now slot reason.old }
 {
-    why_of_image(image, call, slot, reason)
+    status_of(why_of_image(image, call, slot, reason))
 }
 
 // The same of the running machine, whose arrays are only read.
@@ -28,5 +29,5 @@ pub extern "C" fn picman_machine_why(
     ensures { let machine = slices keys.now rows.now registers.now in
         why_left result reason.new ≡ why_of_slices machine call.now slot reason.old }
 {
-    why_of_slices(keys, rows, registers, call, slot, reason)
+    status_of(why_of_slices(keys, rows, registers, call, slot, reason))
 }

@@ -1,23 +1,18 @@
 -- What is given where something does not fit and where all does. Assumes nothing.
 use Prim.Native.Nat.{ℕ}
 use mathlib.Core.Path.{◌≡◌, sym}
-use mathlib.Core.Bool.{Bool, true, false, ◌&&◌}
+use mathlib.Core.Bool.{Bool, true, false}
 use mathlib.Core.List.{List, map}
-use lib.Dec.{eqb}
 use lib.ListN.{length}
-use borrow.Author.Tests.{eqb-true, eq-eqb, ne_eqb}
-use Rattle.seq.proofs.Tests.{and_left, and_right}
-use Rattle.def.specs.State.{slots}
+use borrow.Author.Tests.{eq-eqb, ne_eqb}
 use Rattle.def.specs.declared.{EvcPm.EvcPm, RefpCall.RefpCall, Refusal.Refusal}
 use Rattle.keys.specs.declared.{Rest.Rest}
-use Rattle.keys.specs.Keys.{rows_length, slot_at, stands}
-use Rattle.registers.specs.Registers.{registers_length}
+use Rattle.keys.specs.Keys.{slot_at, stands}
 use Rattle.whole.specs.Whole.{whole}
 use Rattle.line.specs.declared.{Line.Line}
 use Rattle.reasons.specs.declared.{WhyAnswer.WhyAnswer}
 use Rattle.reasons.specs.Reasons.{why_whole, why}
-use Rattle.machine.specs.Lent.{slices, sized}
-use Rattle.questions.specs.declared.Question.{Question}
+use Rattle.std.specs.Prelude.{Option}
 use Rattle.questions.specs.Asked.{question_in, reason_length, why_asked, bad_why, if_fits}
 
 module _ (fit : Bool) (pm : EvcPm) (line : Line) (slot : ℕ) (reason : List ℕ) where
@@ -28,24 +23,10 @@ module _ (fit : Bool) (pm : EvcPm) (line : Line) (slot : ℕ) (reason : List ℕ
     pub no_room : (length reason ≡ reason_length → ⊥) → bad_why reason ≡ if_fits fit pm line slot reason
     no_room n = rw (e, ne_eqb (length reason) reason_length n)
 
-    pub all-fits : {q : Question} → length reason ≡ reason_length → question_in line ≡ q → why_asked pm q slot reason ≡ if_fits fit pm line slot reason
+    pub all-fits : {q : Option RefpCall} → length reason ≡ reason_length → question_in line ≡ q → why_asked pm q slot reason ≡ if_fits fit pm line slot reason
     all-fits n l = rw (e, eq-eqb (length reason) reason_length n, l)
 
--- ---- slices of the right sizes
-
-module _ (keys rows registers : List ℕ) (fit : sized (slices keys rows registers) ≡ true) where
-  both : (eqb (length keys) slots && eqb (length rows) rows_length) ≡ true
-  both = and_left (eqb (length keys) slots && eqb (length rows) rows_length) (eqb (length registers) registers_length) fit
-
-  pub keys-fit : length keys ≡ slots
-  keys-fit = eqb-true (length keys) slots (and_left (eqb (length keys) slots) (eqb (length rows) rows_length) both)
-
-  pub registers-fit : length registers ≡ registers_length
-  registers-fit =
-      eqb-true (length registers) registers_length
-      (and_right (eqb (length keys) slots && eqb (length rows) rows_length) (eqb (length registers) registers_length) fit)
-
--- ---- the state that they stand for
+-- ---- the state that slices stand for
 
 module _ (keys rows : List ℕ) {rest is : Rest} (c : RefpCall) (slot : ℕ) (same : rest ≡ is) where
   pub not-whole-why : whole (stands keys rows rest) ≡ false → WhyAnswer.Refused Refusal.StateNotWhole ≡ why (stands keys rows is) c slot

@@ -6,14 +6,14 @@ use mathlib.Core.List.{List}
 use native.Mathlib.Omega.{arith}
 use lib.Dec.{eqb}
 use lib.ListN.{length}
-use Rattle.def.specs.declared.{EvcPm.EvcPm}
+use Rattle.def.specs.declared.{EvcPm.EvcPm, RefpCall.RefpCall}
 use Rattle.line.specs.declared.{Line.Line}
 use Rattle.line.specs.Calls.{call_from}
 use Rattle.image.specs.Image.{pm_of, is_image}
 use Rattle.reasons.specs.declared.{WhyAnswer.WhyAnswer}
 use Rattle.reasons.specs.Reasons.{why}
 use Rattle.machine.specs.Lent.{machine_at, sized}
-use Rattle.questions.specs.declared.Question.{Question}
+use Rattle.std.specs.Prelude.{Option, Some, None}
 use Rattle.questions.specs.Asked.{question_in, reason_length, shown_why, why_asked, bad_why, if_fits, why_of_image, why_of_slices}
 use Rattle.questions.specs.Claims.{ImageWhyKept, SlicesWhyKept}
 
@@ -21,9 +21,9 @@ shown-kept : (a : WhyAnswer) (reason : List ℕ) → 1 ≤ (shown_why a reason).
 shown-kept (WhyAnswer.Told r) reason h = absurd (omega arith)
 shown-kept (WhyAnswer.Refused r) reason h = refl
 
-asked-kept : (pm : EvcPm) (q : Question) (slot : ℕ) (reason : List ℕ) → 1 ≤ (why_asked pm q slot reason).given → (why_asked pm q slot reason).reason ≡ reason
-asked-kept pm (Question.Lists c) slot reason h = shown-kept (why pm c slot) reason h
-asked-kept pm Question.Other slot reason h = refl
+asked-kept : (pm : EvcPm) (q : Option RefpCall) (slot : ℕ) (reason : List ℕ) → 1 ≤ (why_asked pm q slot reason).given → (why_asked pm q slot reason).reason ≡ reason
+asked-kept pm (Some c) slot reason h = shown-kept (why pm c slot) reason h
+asked-kept pm None slot reason h = refl
 
 fits_kept : (fit : Bool) (pm : EvcPm) (line : Line) (slot : ℕ) (reason : List ℕ)
     → 1 ≤ (if_fits fit pm line slot reason).given → (if_fits fit pm line slot reason).reason ≡ reason

@@ -1,9 +1,9 @@
 -- The question why as bytes: the bytes of a list call's line and a slot, of the state of an image or of the running machine. What is given, and
 -- the two lent bytes as they are left.
 -- Assumes nothing.
-use Rattle.std.specs.Prelude.{ℕ, Bool, cond, ◌&&◌, List, [], ◌∷◌, eqb, length}
+use Rattle.std.specs.Prelude.{ℕ, Bool, cond, ◌&&◌, List, [], ◌∷◌, eqb, length, Option, Some, None}
 use Rattle.def.specs.Refusals.{refusal_number}
-use Rattle.def.specs.declared.{EvcPm.EvcPm, Refusal.Refusal}
+use Rattle.def.specs.declared.{EvcPm.EvcPm, RefpCall.RefpCall, Refusal.Refusal}
 use Rattle.line.specs.declared.{Call.Call, Line.Line}
 use Rattle.line.specs.Calls.{call_from}
 use Rattle.image.specs.Image.{pm_of, is_image}
@@ -11,22 +11,21 @@ use Rattle.reasons.specs.declared.{Reason.Reason, WhyAnswer.WhyAnswer}
 use Rattle.reasons.specs.Reasons.{why}
 use Rattle.machine.specs.Step.{refp_call_of}
 use Rattle.machine.specs.Lent.{Slices, machine_at, sized}
-use Rattle.questions.specs.declared.Question.{Question}
 
 -- ---- what is asked
 
 -- The call of a list request; every other call, and a bad one, asks nothing here.
-abbrev pub question_of : Call → Question
-question_of (Call.Init size refs) = Question.Other
-question_of Call.GetEmptyPic = Question.Other
-question_of (Call.PutPic flags poc tid gap) = Question.Other
-question_of Call.OutPic = Question.Other
-question_of (Call.RefpInit slice poc layer intra limit) = Question.Lists (refp_call_of slice poc layer intra limit)
-question_of (Call.PocDerivation L t) = Question.Other
+abbrev pub question_of : Call → Option RefpCall
+question_of (Call.Init size refs) = None
+question_of Call.GetEmptyPic = None
+question_of (Call.PutPic flags poc tid gap) = None
+question_of Call.OutPic = None
+question_of (Call.RefpInit slice poc layer intra limit) = Some (refp_call_of slice poc layer intra limit)
+question_of (Call.PocDerivation L t) = None
 
-abbrev pub question_in : Line → Question
+abbrev pub question_in : Line → Option RefpCall
 question_in (Line.Good call) = question_of call
-question_in Line.Bad = Question.Other
+question_in Line.Bad = None
 
 -- ---- what is left
 
@@ -72,9 +71,9 @@ shown_why (WhyAnswer.Refused r) reason = why_left (refusal_number r) reason
 abbrev pub bad_why : List ℕ → WhyLeft
 bad_why reason = why_left (refusal_number Refusal.BadLine) reason
 
-abbrev pub why_asked : EvcPm → Question → ℕ → List ℕ → WhyLeft
-why_asked pm (Question.Lists c) slot reason = shown_why (why pm c slot) reason
-why_asked pm Question.Other slot reason = bad_why reason
+abbrev pub why_asked : EvcPm → Option RefpCall → ℕ → List ℕ → WhyLeft
+why_asked pm (Some c) slot reason = shown_why (why pm c slot) reason
+why_asked pm None slot reason = bad_why reason
 
 -- ---- of an image, and of the running machine
 

@@ -1,13 +1,14 @@
 // The question why a picture is or is not in the forward list, as bytes, for the library: the bytes of a list call's line, check byte too, and a
 // slot, of an image or of the running machine. State and lists are only read. Two lent bytes get the reason; where a size, a flag byte or the
-// call does not fit 18 is given, and that and every other refusal writes nothing.
+// call does not fit it is turned down as a bad line, and that and every other refusal writes nothing.
 #![tactic(auto)]
 
 ghost use Rattle.std.specs.Prelude.{◌≡◌, length};
+ghost use Rattle.statuses.specs.Statuses.{status};
 ghost use Rattle.line.specs.Calls.{call_from};
-ghost use Rattle.questions.specs.Asked.{question_of, question_in, reason_number, place_told, reason_length, reason_bytes, why_left, shown_why};
+ghost use Rattle.questions.specs.Asked.{question_of, question_in, reason_number, place_told, reason_length, why_left, shown_why};
 
-use def::{DONE, RefpCall};
+use def::{RefpCall, Refusal};
 use line::{Call, Line};
 use machine::fields::refp_call_of;
 use parsing::read_call;
@@ -15,53 +16,33 @@ use reasons::{Reason, WhyAnswer};
 
 pub const REASON_LENGTH: usize = 2;
 
-// What a call asks here: why, of a list request, or nothing.
-#[derive(Clone, Copy)]
-pub enum Question {
-    Lists(RefpCall),
-    Other,
-}
-
-fn question_of(call: Call) -> Question
+// The list request of a call that asks for one; no other call asks anything here.
+fn question_of(call: Call) -> Option<RefpCall>
     ensures { result ≡ question_of call }
 {
     match call {
-        Call::Init {
-            max_pb_size,
-            max_num_ref_pics,
-        } => Question::Other,
-        Call::GetEmptyPic => Question::Other,
-        Call::PutPic {
-            flags,
-            poc,
-            temporal_id,
-            ref_pic_gap_length,
-        } => Question::Other,
-        Call::OutPic => Question::Other,
         Call::RefpInit {
             slice_type,
             poc,
             layer_id,
             last_intra,
             max_num_ref_pics,
-        } => Question::Lists(refp_call_of(slice_type, poc, layer_id, last_intra, max_num_ref_pics)),
-        Call::PocDerivation {
-            log2_sub_gop_length,
-            tid,
-        } => Question::Other,
+        } => Some(refp_call_of(slice_type, poc, layer_id, last_intra, max_num_ref_pics)),
+        _ => None,
     }
 }
 
-pub fn question_in(call: &[u8]) -> Question
+// Of the bytes of a call's line; a bad one asks nothing either.
+pub fn question_in(call: &[u8]) -> Option<RefpCall>
     ensures { result ≡ question_in (call_from call.now) }
 {
-    let line = read_call(call);
-    match line {
+    match read_call(call) {
         Line::Good(good) => question_of(good),
-        Line::Bad => Question::Other,
+        Line::Bad => None,
     }
 }
 
+// By a table: one of them carries a place, so that they have no numbers of their own.
 fn reason_number(told: Reason) -> u8
     ensures { result ≡ reason_number told }
 {
@@ -83,31 +64,19 @@ fn place_told(told: Reason) -> u8
 {
     match told {
         Reason::Taken(place) => place,
-        Reason::NotMarked => 0,
-        Reason::Full => 0,
-        Reason::Old => 0,
-        Reason::SameNumber => 0,
-        Reason::OtherSide => 0,
-        Reason::LayerOverBound => 0,
-        Reason::NoListAsked => 0,
+        _ => 0,
     }
 }
 
-fn write_reason(reason: &mut [u8], told: Reason) -> u8
+pub fn show_why(reason: &mut [u8], answer: WhyAnswer) -> Result<(), Refusal>
     requires { length reason.old ≡ reason_length }
-    ensures { why_left result reason.new ≡ why_left 0 (reason_bytes told) }
-{
-    reason[0] = reason_number(told);
-    reason[1] = place_told(told);
-    DONE
-}
-
-pub fn show_why(reason: &mut [u8], answer: WhyAnswer) -> u8
-    requires { length reason.old ≡ reason_length }
-    ensures { why_left result reason.new ≡ shown_why answer reason.old }
+    ensures { why_left (status result) reason.new ≡ shown_why answer reason.old }
 {
     match answer {
-        WhyAnswer::Told(told) => write_reason(reason, told),
-        WhyAnswer::Refused(why) => u8::from(why),
+        WhyAnswer::Told(told) => {
+            reason.copy_from_slice(&[reason_number(told), place_told(told)]);
+            Ok(())
+        }
+        WhyAnswer::Refused(why) => Err(why),
     }
 }

@@ -26,11 +26,9 @@ fn write_record(registers: &mut [u32], poc: EvcPoc)
     requires { length registers.old ≡ registers_length }
     ensures { Recorded registers.old registers.new poc }
 {
-    let number = poc.poc_val.0;
-    let offset = poc.prev_doc_offset.0;
-    registers[3] = number.cast_unsigned();
+    registers[3] = poc.poc_val.0.cast_unsigned();
     registers[4] = poc.prev_poc_val;
-    registers[5] = offset.cast_unsigned();
+    registers[5] = poc.prev_doc_offset.0.cast_unsigned();
 }
 
 // A derivation that is turned down leaves the registers unwritten.

@@ -1,4 +1,5 @@
-// What a caller's slices are tested for before anything is read in them.
+// What a caller's slices are tested for before anything is read in them. They come apart, as C lends them; a struct of three `&mut` has no view as
+// one value, and each contract would name the three again.
 #![tactic(auto)]
 
 ghost use Rattle.std.specs.Prelude.{◌≡◌};

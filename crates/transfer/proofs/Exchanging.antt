@@ -2,18 +2,15 @@
 -- Assumes nothing.
 use Prim.Native.Nat.{ℕ}
 use mathlib.Core.Path.{◌≡◌, refl, sym, ap, ap₂, subst, ◌∙◌}
-use mathlib.Core.Bool.{true, false, ◌&&◌}
+use mathlib.Core.Bool.{true, false}
 use mathlib.Core.List.{List}
 use native.Mathlib.Omega.{arith}
-use lib.Dec.{eqb}
 use lib.ListN.{length}
-use borrow.Author.Tests.{eqb-true, eq-eqb, ne_eqb}
-use Rattle.seq.proofs.Tests.{and_left, and_right}
-use Rattle.def.specs.State.{slots}
+use borrow.Author.Tests.{eq-eqb, ne_eqb}
 use Rattle.def.specs.declared.EvcPoc.{EvcPoc}
 use Rattle.keys.specs.declared.Rest.{Rest}
-use Rattle.keys.specs.Keys.{rows_length, stands, Sized}
-use Rattle.registers.specs.Registers.{registers_length, rest_of, poc_of}
+use Rattle.keys.specs.Keys.{stands}
+use Rattle.registers.specs.Registers.{rest_of, poc_of}
 use Rattle.whole.specs.Whole.{whole}
 use Rattle.image.specs.Image.{image_length, is_image}
 use Rattle.machine.specs.declared.{Machine.Machine, Scalars.Scalars}
@@ -30,23 +27,6 @@ scalars-at : (keys rows registers : List ℕ) (s : Scalars) → rest_of register
 scalars-at keys rows registers s e f = ap₂ (λ (q : Rest) (p : EvcPoc). machine_in keys rows (record { rest = q; poc = p })) e f
 
 module _ (keys rows registers : List ℕ) where
-  -- ---- the sizes
-
-  module _ (fit : sized (slices keys rows registers) ≡ true) where
-    both : (eqb (length keys) slots && eqb (length rows) rows_length) ≡ true
-    both = and_left (eqb (length keys) slots && eqb (length rows) rows_length) (eqb (length registers) registers_length) fit
-
-    pub arrays-sized : Sized keys rows
-    arrays-sized = record {
-      slots_long = eqb-true (length keys) slots (and_left (eqb (length keys) slots) (eqb (length rows) rows_length) both);
-      rows_long = eqb-true (length rows) rows_length (and_right (eqb (length keys) slots) (eqb (length rows) rows_length) both);
-    }
-
-    pub registers_long : length registers ≡ registers_length
-    registers_long =
-        eqb-true (length registers) registers_length
-        (and_right (eqb (length keys) slots && eqb (length rows) rows_length) (eqb (length registers) registers_length) fit)
-
   module _ (image : List ℕ) where
     -- ---- load
 

@@ -5,7 +5,6 @@ ghost use Rattle.std.specs.Prelude.{◌≡◌, length};
 ghost use Rattle.running.specs.Slices.{slices};
 ghost use Rattle.wire.specs.Wire.{answer_length, answer_bytes, Wired};
 
-use buffer::paste;
 use line::{BAD_LINE, Reply};
 use running::reply_on;
 use sizing::is_sized;
@@ -16,11 +15,11 @@ pub fn write_answer(answer: &mut [u8], reply: Reply)
     requires { length answer.old ≡ answer_length }
     ensures { answer.new ≡ answer_bytes reply }
 {
-    let bytes = replies::answer_bytes(reply);
-    paste(answer, 0, &bytes, ANSWER_LENGTH);
+    answer.copy_from_slice(&replies::answer_bytes(reply));
 }
 
-// The status of the answer that is written. With a wrong size 18, and nothing is written, the answer neither.
+// The status of the answer that is written. With a wrong size 18, and nothing is written, the answer neither. The status is the answer's own byte,
+// which also says that no picture comes, so that it is given as it is.
 pub fn call_bytes(
     keys: &mut [u64],
     rows: &mut [u32],

@@ -10,4 +10,4 @@ pub returns : goal.returns
 returns c =
     c.show_why.ensures
     ∙ ap (λ (a : WhyAnswer). shown_why a c.args.reason.now)
-    (c.evc_picman_why.ensures ∙ ap (λ (pm : EvcPm). why pm c.args.call c.args.slot) c.read_pm-pm.ensures)
+    (c.evc_picman_why.ensures ∙ ap (λ (pm : EvcPm). why pm c.args.call c.args.slot) c.read_pm.ensures)

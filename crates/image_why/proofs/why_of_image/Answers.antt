@@ -23,17 +23,17 @@ returns-then-reason-ne-REASON_LENGTH c =
 pub ask_image-requires : goal.ask_image-requires
 ask_image-requires c = (image-long _ (sym c.is_image.ensures ∙ c.if-not-is_image.false), c.if-reason-ne-REASON_LENGTH.false)
 
-pub returns-in-Lists : goal.returns-in-Lists
+pub returns-in-Some : goal.returns-in-Some
 unfolding why_of_image
-returns-in-Lists c =
+returns-in-Some c =
     let a = c.args in
     c.ask_image.ensures
     ∙ all-fits _ (pm_of a.image.now) (call_from a.call.now) a.slot a.reason.now (sym c.is_image.ensures ∙ c.if-not-is_image.false)
-    c.if-reason-ne-REASON_LENGTH.false (sym c.question_in-question.ensures ∙ c.in-Lists.is)
+    c.if-reason-ne-REASON_LENGTH.false (sym c.question_in.ensures ∙ c.in-Some.is)
 
-pub returns-in-Other : goal.returns-in-Other
+pub returns-in-None : goal.returns-in-None
 unfolding why_of_image
-returns-in-Other c =
+returns-in-None c =
     let a = c.args in
     all-fits _ (pm_of a.image.now) (call_from a.call.now) a.slot a.reason.now (sym c.is_image.ensures ∙ c.if-not-is_image.false)
-    c.if-reason-ne-REASON_LENGTH.false (sym c.question_in-question.ensures ∙ c.in-Other.is)
+    c.if-reason-ne-REASON_LENGTH.false (sym c.question_in.ensures ∙ c.in-None.is)

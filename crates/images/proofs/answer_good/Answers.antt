@@ -9,7 +9,7 @@ use Rattle.images.proofs.answer_good.Goals as goal
 
 pub returns : goal.returns
 returns c =
-    let e = c.step-stepped.ensures ∙ ap (λ (m : Machine). step m c.args.call) c.read_machine-before.ensures in
+    let e = c.step-next.ensures ∙ ap (λ (m : Machine). step m c.args.call) c.read_machine-before.ensures in
     record {
       given = rw (c.write_answer.ensures, c.write_machine.ensures.bytes, e);
       holds = subst (λ (s : Stepped). ImageHolds c.write_machine.new.image s.machine) e c.write_machine.ensures.holds;

@@ -54,7 +54,7 @@ answer_good-requires c =
 pub returns-in-Good : goal.returns-in-Good
 unfolding step_line
 returns-in-Good c =
-    let e = sym c.read_call-line.ensures ∙ c.in-Good.is in
+    let e = sym c.read_call.ensures ∙ c.in-Good.is in
     answers (record { each = λ i. omega (arith, c.slice_known-1.given i) })
     (c.answer_good.ensures.given ∙ sym (called-line _ _ _ _ (sym c.is_image.ensures ∙ c.if-not-is_image.false) c.if-answer-ne-ANSWER_LENGTH.false e))
     (λ _ _. holds-line _ _ e c.answer_good.ensures.holds)
@@ -62,7 +62,7 @@ returns-in-Good c =
 pub returns-in-Bad : goal.returns-in-Bad
 unfolding step_line
 returns-in-Bad c =
-    let e = sym c.read_call-line.ensures ∙ c.in-Bad.is in
+    let e = sym c.read_call.ensures ∙ c.in-Bad.is in
     answers (record { each = λ i. omega (arith, c.slice_known-1.given i) })
     (rw (c.answer_bad.ensures.0, c.answer_bad.ensures.1) (sym (called-line _ _ _ _ (sym c.is_image.ensures ∙ c.if-not-is_image.false) c.if-answer-ne-ANSWER_LENGTH.false e)))
     (λ f _. holds-line _ _ e (record { image = f; machine = refl }))

@@ -27,6 +27,6 @@ returns c =
     (rw (
       eq-eqb (length c.args.image.now) image_length c.if-image-ne-IMAGE_LENGTH.false,
       c.write_machine.ensures.bytes,
-      c.new_machine-machine.ensures,
+      c.new_machine.ensures,
     ))
-    (λ _. subst (ImageHolds c.write_machine.new.image) c.new_machine-machine.ensures c.write_machine.ensures.holds)
+    (λ _. subst (ImageHolds c.write_machine.new.image) c.new_machine.ensures c.write_machine.ensures.holds)

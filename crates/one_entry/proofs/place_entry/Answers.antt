@@ -1,6 +1,5 @@
 -- `one_entry::place_entry` meets its contract: what does not fit is turned down, and the rest is the copy's. Assumes nothing.
-use mathlib.Core.Path.{sym, ap, ◌∙◌}
-use lib.ListN.{length}
+use mathlib.Core.Path.{sym, ◌∙◌}
 use Rattle.one_entry.proofs.Entering.{fitting, not-placed, placed}
 use borrow.Author.Rules.{rules}
 use Rattle.one_entry.proofs.place_entry.Goals as goal
@@ -8,14 +7,14 @@ use Rattle.one_entry.proofs.place_entry.Goals as goal
 pub returns-then-not-is_fit : goal.returns-then-not-is_fit
 returns-then-not-is_fit c = not-placed _ _ (sym c.is_fit.ensures ∙ c.if-not-is_fit.true)
 
-pub numbers_of-numbers-requires : goal.numbers_of-numbers-requires
-numbers_of-numbers-requires c = (fitting c.args.rows.now c.args.present c.args.list_poc.now (sym c.is_fit.ensures ∙ c.if-not-is_fit.false)).1
+pub copy_from_slice-requires : goal.copy_from_slice-requires
+copy_from_slice-requires c = sym (fitting c.args.rows.now c.args.present c.args.list_poc.now (sym c.is_fit.ensures ∙ c.if-not-is_fit.false)).1
 
 pub copy_refp-answer-requires : goal.copy_refp-answer-requires
 copy_refp-answer-requires c =
-    ((fitting c.args.rows.now c.args.present c.args.list_poc.now (sym c.is_fit.ensures ∙ c.if-not-is_fit.false)).0, ap length c.numbers_of-numbers.ensures ∙ (fitting c.args.rows.now c.args.present c.args.list_poc.now (sym c.is_fit.ensures ∙ c.if-not-is_fit.false)).1)
+    ((fitting c.args.rows.now c.args.present c.args.list_poc.now (sym c.is_fit.ensures ∙ c.if-not-is_fit.false)).0, c.copy_from_slice.ensures.len)
 
 pub returns : goal.returns
 returns c =
     placed c.args.rows.now c.args.list_poc.now c.args.cnt c.args.lidx c.args.present c.args.buf c.args.poc (sym c.is_fit.ensures ∙ c.if-not-is_fit.false) (search rules)
-    c.head_from-head.ensures c.numbers_of-numbers.ensures c.copy_refp-answer.ensures c.reply_of.ensures
+    c.head_from-head.ensures c.copy_from_slice.ensures.after c.copy_refp-answer.ensures c.reply_of.ensures

@@ -9,4 +9,4 @@ returns-then-not-is_sized c = not-renewed _ (sym c.is_sized.ensures ∙ c.if-not
 pub returns : goal.returns
 returns c =
     renewed (sym c.is_sized.ensures ∙ c.if-not-is_sized.false)
-    c.clear_keys.ensures c.clear_numbers.ensures c.clear_numbers-2.ensures
+    (c.fill.ensures.after (λ y e. e)) (c.fill-2.ensures.after (λ y e. e)) (c.fill-3.ensures.after (λ y e. e))

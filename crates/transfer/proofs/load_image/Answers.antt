@@ -3,7 +3,9 @@ use mathlib.Core.Path.{sym, ap, ◌∙◌}
 use Rattle.whole.specs.Whole.{whole}
 use Rattle.machine.specs.declared.Machine.{Machine}
 use Rattle.image.proofs.BytesKept.{image-long}
-use Rattle.transfer.proofs.Exchanging.{arrays-sized, registers_long, load-not-whole, load-done}
+use Rattle.machine.specs.Lent.{slices}
+use Rattle.sizing.proofs.Sized.{sized-long}
+use Rattle.transfer.proofs.Exchanging.{load-not-whole, load-done}
 use Rattle.transfer.proofs.load_image.Goals as goal
 
 pub read_machine-m-requires : goal.read_machine-m-requires
@@ -16,11 +18,11 @@ returns-then-not-state_is_whole c =
 
 pub take_machine-s-requires : goal.take_machine-s-requires
 take_machine-s-requires c =
-    (arrays-sized c.args.keys.now c.args.rows.now c.args.registers.now c.requires.0)
+    (sized-long (slices c.args.keys.now c.args.rows.now c.args.registers.now) c.requires.0).0
 
 pub store-requires : goal.store-requires
 store-requires c =
-    (registers_long c.args.keys.now c.args.rows.now c.args.registers.now c.requires.0)
+    (sized-long (slices c.args.keys.now c.args.rows.now c.args.registers.now) c.requires.0).1
 
 pub returns : goal.returns
 returns c =
