@@ -1,3 +1,4 @@
 pub mod HexLaws
 pub mod Pairs
 pub mod Faithful
+pub mod Tables

@@ -1,5 +1,6 @@
 -- From what a call of the core comes to, to what it does to the machine that the arrays stand for.
 -- Assumes nothing.
+use Rattle.std.specs.Prelude.{Option}
 use mathlib.Core.Path.{◌≡◌, refl, sym, ap, ◌∙◌, subst}
 use mathlib.Core.Bool.{Bool, true, false, cond, not, ◌||◌}
 use mathlib.Core.Bool as Bool
@@ -12,7 +13,7 @@ use Rattle.seq.specs.Lists.{entries_from, entries}
 use Rattle.def.specs.declared.{EvcPm.EvcPm, EvcRefP.EvcRefP, PutCall.PutCall, RefpCall.RefpCall, PmResult.PmResult, RefpResult.RefpResult, Answer.Answer}
 use Rattle.def.specs.State.{slots}
 use Rattle.keys.specs.Keys.{row_length, row_count, head_row, number_row, entry_row, rows_length, row_at, slot_at, entry_at, stands, lists_in, Sized}
-use Rattle.keys.specs.declared.{Called.Called}
+use Rattle.keys.specs.declared.Called.{Called}
 use Rattle.poc.specs.PictureNumber.{derive}
 use Rattle.poc.proofs.Why.{derive-refused}
 use Rattle.picman.specs.OnKeys.{Calls}
@@ -20,7 +21,7 @@ use Rattle.picman.specs.{Init.init, Init.init_whole, Get.get, Get.get_whole, Out
 use Rattle.refp.specs.Lists.{lists_whole, lists}
 use Rattle.refp.specs.Running.{ListsCame}
 use Rattle.whole.specs.Whole.{whole}
-use Rattle.line.specs.declared.{Call.Call, Line.Line}
+use Rattle.line.specs.declared.Call.{Call}
 use Rattle.line.specs.declared.Call.TheVariants.{Init, GetEmptyPic, PutPic, OutPic, RefpInit, PocDerivation}
 use Rattle.def.specs.declared.Answer.TheVariants.{Refused}
 use Rattle.def.specs.declared.Refusal.TheVariants.{StateNotWhole}
@@ -153,7 +154,7 @@ record-makes keys rows s L t sized e = rw e (record {
 })
 
 -- A call on a machine that runs leaves one that runs.
-pub runs_on : {keys rows keys' rows' : List ℕ} {s : Scalars} {r : Made} (l : Line) → Runs keys rows s
+pub runs_on : {keys rows keys' rows' : List ℕ} {s : Scalars} {r : Made} (l : Option Call) → Runs keys rows s
     → Makes r s keys rows keys' rows' (step_line (machine_in keys rows s) l) → Runs keys' rows' r.scalars
 runs_on {keys} {rows} {s = s} l runs c = record {
   sized = c.still_sized;

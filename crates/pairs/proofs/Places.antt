@@ -11,18 +11,6 @@ use Rattle.buffer.specs.Buffer.{is_newline}
 use Rattle.pairs.specs.Pairs.{is_pair, pair_at, are_pairs, pairs_at}
 use Rattle.hex_digits.proofs.HexLaws.{digit-fits, each-digit}
 
--- The value of a digit, as the table has it.
-pub char-digit : (c : ℕ) → is_digit c ≡ true → char_value c ≡ digit_value c
-char-digit c e = rw e
-
--- What is below 16 in the table is a digit.
-pub digit-test : (c : ℕ) → ltb (char_value c) 16 ≡ is_digit c
-digit-test c = by (is_digit c) refl
-  where
-    by : (b : Bool) → is_digit c ≡ b → ltb (char_value c) 16 ≡ b
-    by true e = rw e (lt-ltb (digit_value c) 16 (digit-fits c e))
-    by false e = rw e
-
 pub pair-value : (cs : List ℕ) (i : ℕ) → is_pair cs i ≡ true → pair_at cs i ≡ 16 * digit_value (get_or cs i 0) + digit_value (get_or cs (i + 1) 0)
 pair-value cs i e =
     let h = get_or cs i 0 in
@@ -34,13 +22,6 @@ pair-value cs i e =
     let x = digit-fits h p in
     let y = digit-fits l q in
     rw (v, w) (omega arith)
-
--- A digit is no newline.
-pub not-newline : (c : ℕ) → is_digit c ≡ true → is_newline c ≡ false
-not-newline = each-digit (λ (c v : ℕ). is_newline c ≡ false) (λ c h k. from c (omega arith)) (λ c h k. from c (omega arith))
-  where
-    from : (c : ℕ) → 10 < c → is_newline c ≡ false
-    from c h = ne_eqb c 10 (λ (e : c ≡ 10). omega arith)
 
 -- One pair more, at the front.
 drop-two : (cs : List ℕ) (i : ℕ) → i + 1 < length cs → drop i cs ≡ get_or cs i 0 ∷ get_or cs (i + 1) 0 ∷ drop (i + 2) cs

@@ -3,10 +3,10 @@
 #![tactic(auto)]
 
 ghost use Rattle.std.specs.Prelude.{◌≡◌, ◌<◌};
-ghost use Rattle.line.specs.Calls.{is_call, call_in, line_for, call_from, read_line};
+ghost use Rattle.line.specs.Calls.{is_call, call_in, call_from, read_line};
 
 use framing::read_framed;
-use line::{Call, GET_EMPTY_PIC, INIT, Line, OUT_PIC, POC_DERIVATION, PUT_PIC, REFP_INIT};
+use line::{Call, GET_EMPTY_PIC, INIT, OUT_PIC, POC_DERIVATION, PUT_PIC, REFP_INIT};
 use summing::is_checked;
 use unpacking::{lists_in, put_in};
 
@@ -29,57 +29,57 @@ fn is_call(body: &[u8], call: u8, size: usize) -> bool
 
 // The call that a body stands for, by its call byte and its length.
 #[tactic(auto, unfolding(line::specs::Calls::call_in))]
-pub fn call_in(body: &[u8]) -> Line
-    ensures { result ≡ line_for (call_in body.now) }
+pub fn call_in(body: &[u8]) -> Option<Call>
+    ensures { result ≡ call_in body.now }
 {
     if is_call(body, INIT, 3) {
-        return Line::Good(Call::Init {
+        return Some(Call::Init {
             max_pb_size: body[1],
             max_num_ref_pics: body[2],
         });
     }
     if is_call(body, GET_EMPTY_PIC, 1) {
-        return Line::Good(Call::GetEmptyPic);
+        return Some(Call::GetEmptyPic);
     }
     if is_call(body, PUT_PIC, 11) {
         return put_in(body);
     }
     if is_call(body, OUT_PIC, 1) {
-        return Line::Good(Call::OutPic);
+        return Some(Call::OutPic);
     }
     if is_call(body, REFP_INIT, 12) {
-        return Line::Good(lists_in(body));
+        return Some(lists_in(body));
     }
     if is_call(body, POC_DERIVATION, 3) {
-        return Line::Good(Call::PocDerivation {
+        return Some(Call::PocDerivation {
             log2_sub_gop_length: body[1],
             tid: body[2],
         });
     }
-    Line::Bad
+    None
 }
 
 // The bytes of a call line, check byte last.
-pub fn read_call(bytes: &[u8]) -> Line
+pub fn read_call(bytes: &[u8]) -> Option<Call>
     ensures { result ≡ call_from bytes.now }
 {
     if !is_checked(bytes) {
-        return Line::Bad;
+        return None;
     }
     let n = bytes.len() - 1;
     call_in(&bytes[..n])
 }
 
 // The characters of a line, without its newline.
-pub fn read_line(digits: &[u8]) -> Line
+pub fn read_line(digits: &[u8]) -> Option<Call>
     ensures { result ≡ read_line digits.now }
 {
     if digits.len() > LONGEST_LINE {
-        return Line::Bad;
+        return None;
     }
     let mut bytes = [0u8; LONGEST_CALL];
     if !read_framed(digits, &mut bytes) {
-        return Line::Bad;
+        return None;
     }
     let n = digits.len() / 2 - 1;
     call_in(&bytes[..n])

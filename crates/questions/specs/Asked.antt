@@ -1,10 +1,10 @@
 -- The question why as bytes: the bytes of a list call's line and a slot, of the state of an image or of the running machine. What is given, and
 -- the two lent bytes as they are left.
 -- Assumes nothing.
-use Rattle.std.specs.Prelude.{ℕ, Bool, cond, ◌&&◌, List, [], ◌∷◌, eqb, length}
+use Rattle.std.specs.Prelude.{ℕ, Bool, cond, ◌&&◌, List, [], ◌∷◌, eqb, length, Option, Some, None}
 use Rattle.def.specs.Refusals.{refusal_number}
 use Rattle.def.specs.declared.{EvcPm.EvcPm, Refusal.Refusal}
-use Rattle.line.specs.declared.{Call.Call, Line.Line}
+use Rattle.line.specs.declared.Call.{Call}
 use Rattle.line.specs.Calls.{call_from}
 use Rattle.image.specs.Image.{pm_of, is_image}
 use Rattle.reasons.specs.declared.{Reason.Reason, WhyAnswer.WhyAnswer}
@@ -24,9 +24,9 @@ question_of Call.OutPic = Question.Other
 question_of (Call.RefpInit slice poc layer intra limit) = Question.Lists (refp_call_of slice poc layer intra limit)
 question_of (Call.PocDerivation L t) = Question.Other
 
-abbrev pub question_in : Line → Question
-question_in (Line.Good call) = question_of call
-question_in Line.Bad = Question.Other
+abbrev pub question_in : Option Call → Question
+question_in (Some call) = question_of call
+question_in None = Question.Other
 
 -- ---- what is left
 
@@ -79,7 +79,7 @@ why_asked pm Question.Other slot reason = bad_why reason
 -- ---- of an image, and of the running machine
 
 -- 18 unless the state's form, the size of the reason and the call fit.
-abbrev pub if_fits : Bool → EvcPm → Line → ℕ → List ℕ → WhyLeft
+abbrev pub if_fits : Bool → EvcPm → Option Call → ℕ → List ℕ → WhyLeft
 if_fits fit pm line slot reason = cond (fit && eqb (length reason) reason_length) (why_asked pm (question_in line) slot reason) (bad_why reason)
 
 unfoldable pub why_of_image : List ℕ → List ℕ → ℕ → List ℕ → WhyLeft

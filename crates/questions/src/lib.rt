@@ -8,7 +8,7 @@ ghost use Rattle.line.specs.Calls.{call_from};
 ghost use Rattle.questions.specs.Asked.{question_of, question_in, reason_number, place_told, reason_length, reason_bytes, why_left, shown_why};
 
 use def::{DONE, RefpCall, refusal_number};
-use line::{Call, Line};
+use line::Call;
 use machine::fields::refp_call_of;
 use parsing::read_call;
 use reasons::{Reason, WhyAnswer};
@@ -57,8 +57,8 @@ pub fn question_in(call: &[u8]) -> Question
 {
     let line = read_call(call);
     match line {
-        Line::Good(good) => question_of(good),
-        Line::Bad => Question::Other,
+        Some(good) => question_of(good),
+        None => Question::Other,
     }
 }
 

@@ -14,7 +14,7 @@ ghost use Rattle.run.specs.Partial.{held_line, Room};
 ghost use Rattle.run.specs.Session.{NextIs, NewSession, RunRoom, RanOver, EndRoom, EndedOver};
 
 use buffer::line_end;
-use line::{Line, LineAt, bad_line_reply};
+use line::{LineAt, bad_line_reply};
 use lookup::TABLE_SIZE;
 use machine::fresh::new_scalars;
 use machine::{Made, Scalars};
@@ -41,7 +41,7 @@ pub struct Ran {
 #[derive(Clone, Copy)]
 struct NextLine {
     complete: bool,
-    line: Line,
+    line: Option<Call>,
     next: usize,
 }
 
@@ -54,7 +54,7 @@ fn searched_line(partial: Partial, piece: &[u8], at: usize) -> NextLine
     if piece.len() <= end {
         return NextLine {
             complete: false,
-            line: Line::Bad,
+            line: None,
             next: at,
         };
     }
@@ -80,7 +80,7 @@ fn next_line(tables: &[u16; TABLE_SIZE], partial: Partial, piece: &[u8], at: usi
     };
     NextLine {
         complete: true,
-        line: Line::Good(call),
+        line: Some(call),
         next,
     }
 }
@@ -94,7 +94,7 @@ fn bad_line(scalars: Scalars) -> Made
 }
 
 // What a line does.
-fn answer_line(keys: &mut [u64], rows: &mut [u32], scalars: Scalars, line: Line) -> Made
+fn answer_line(keys: &mut [u64], rows: &mut [u32], scalars: Scalars, line: Option<Call>) -> Made
     requires { Runs keys.old rows.old scalars }
     ensures { let keys_in = keys.old in
         let rows_in = rows.old in
@@ -102,8 +102,8 @@ fn answer_line(keys: &mut [u64], rows: &mut [u32], scalars: Scalars, line: Line)
         Makes result scalars keys_in rows_in keys.new rows.new (step_line m line) }
 {
     match line {
-        Line::Good(call) => make_call(keys, rows, scalars, call),
-        Line::Bad => bad_line(scalars),
+        Some(call) => make_call(keys, rows, scalars, call),
+        None => bad_line(scalars),
     }
 }
 

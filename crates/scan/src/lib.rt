@@ -26,7 +26,7 @@ fn init_at(tables: &[u16; TABLE_SIZE], buffer: &[u8], at: usize) -> LineAt
             at + 9,
         );
     }
-    LineAt::Other
+    None
 }
 
 fn derive_at(tables: &[u16; TABLE_SIZE], buffer: &[u8], at: usize) -> LineAt
@@ -43,7 +43,7 @@ fn derive_at(tables: &[u16; TABLE_SIZE], buffer: &[u8], at: usize) -> LineAt
             at + 9,
         );
     }
-    LineAt::Other
+    None
 }
 
 fn get_at(tables: &[u16; TABLE_SIZE], buffer: &[u8], at: usize) -> LineAt
@@ -53,7 +53,7 @@ fn get_at(tables: &[u16; TABLE_SIZE], buffer: &[u8], at: usize) -> LineAt
     if bare_at(tables, buffer, at, 2) {
         return LineAt::Good(Call::GetEmptyPic, at + 5);
     }
-    LineAt::Other
+    None
 }
 
 fn out_at(tables: &[u16; TABLE_SIZE], buffer: &[u8], at: usize) -> LineAt
@@ -63,7 +63,7 @@ fn out_at(tables: &[u16; TABLE_SIZE], buffer: &[u8], at: usize) -> LineAt
     if bare_at(tables, buffer, at, 4) {
         return LineAt::Good(Call::OutPic, at + 5);
     }
-    LineAt::Other
+    None
 }
 
 fn put_at(tables: &[u16; TABLE_SIZE], buffer: &[u8], at: usize) -> LineAt
@@ -71,7 +71,7 @@ fn put_at(tables: &[u16; TABLE_SIZE], buffer: &[u8], at: usize) -> LineAt
     ensures { result ≡ call_at buffer.now at }
 {
     if buffer.len() - at < 25 {
-        return LineAt::Other;
+        return None;
     }
     let f = fields_at(tables, buffer, at, 3);
     if check_at(tables, buffer, at + 22, f.sum, f.good) & !(15 < f.lead) {
@@ -85,7 +85,7 @@ fn put_at(tables: &[u16; TABLE_SIZE], buffer: &[u8], at: usize) -> LineAt
             at + 25,
         );
     }
-    LineAt::Other
+    None
 }
 
 fn lists_at(tables: &[u16; TABLE_SIZE], buffer: &[u8], at: usize) -> LineAt
@@ -93,7 +93,7 @@ fn lists_at(tables: &[u16; TABLE_SIZE], buffer: &[u8], at: usize) -> LineAt
     ensures { result ≡ call_at buffer.now at }
 {
     if buffer.len() - at < 27 {
-        return LineAt::Other;
+        return None;
     }
     let f = fields_at(tables, buffer, at, 5);
     let limit = pair_at(tables, buffer, at + 22);
@@ -110,7 +110,7 @@ fn lists_at(tables: &[u16; TABLE_SIZE], buffer: &[u8], at: usize) -> LineAt
             at + 27,
         );
     }
-    LineAt::Other
+    None
 }
 
 // The good line that starts at a place and ends with its newline inside the buffer.
@@ -119,10 +119,10 @@ pub fn read_line_at(tables: &[u16; TABLE_SIZE], buffer: &[u8], at: usize) -> Lin
     ensures { result ≡ call_at buffer.now at }
 {
     if buffer.len() - at < 2 {
-        return LineAt::Other;
+        return None;
     }
     if buffer[at] != b'0' {
-        return LineAt::Other;
+        return None;
     }
     let call = buffer[at + 1];
     match call {
@@ -132,6 +132,6 @@ pub fn read_line_at(tables: &[u16; TABLE_SIZE], buffer: &[u8], at: usize) -> Lin
         b'4' => out_at(tables, buffer, at),
         b'5' => lists_at(tables, buffer, at),
         b'6' => derive_at(tables, buffer, at),
-        _ => LineAt::Other,
+        _ => None,
     }
 }

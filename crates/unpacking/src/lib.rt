@@ -3,10 +3,10 @@
 
 ghost use Rattle.std.specs.Prelude.{◌≡◌, ◌+◌, ◌<◌, length};
 ghost use Rattle.hex_digits.specs.Frame.{word_at};
-ghost use Rattle.line.specs.Calls.{put_in, lists_in, line_for};
+ghost use Rattle.line.specs.Calls.{put_in, lists_in};
 
 use hex_digits::word;
-use line::{Call, HIGHEST_FLAGS, Line};
+use line::{Call, HIGHEST_FLAGS};
 
 // Four bytes from a place on.
 fn word_at(bytes: &[u8], at: usize) -> u32
@@ -17,15 +17,15 @@ fn word_at(bytes: &[u8], at: usize) -> u32
 }
 
 // A put, unless its flags have a bit above the four that mean something.
-pub fn put_in(body: &[u8]) -> Line
+pub fn put_in(body: &[u8]) -> Option<Call>
     requires { length body.now ≡ 11 }
-    ensures { result ≡ line_for (put_in body.now) }
+    ensures { result ≡ put_in body.now }
 {
     let flags = body[1];
     if HIGHEST_FLAGS < flags {
-        return Line::Bad;
+        return None;
     }
-    Line::Good(Call::PutPic {
+    Some(Call::PutPic {
         flags,
         poc: word_at(body, 2),
         temporal_id: body[6],

@@ -1,5 +1,6 @@
 -- The claims about the writer, proved.
 -- Assumes nothing.
+use Rattle.std.specs.Prelude.{Some}
 use Prim.Native.Nat.{ℕ, ◌+◌, ◌<◌, ◌≤◌}
 use native.Mathlib.Omega.{arith}
 use mathlib.Core.Path.{◌≡◌, refl, sym, ap, ◌∙◌}
@@ -12,11 +13,9 @@ use borrow.Author.Tests.{lt-ltb, le-ltb}
 use Rattle.seq.specs.Lists.{lowest}
 use Rattle.def.specs.declared.Refusal.{Refusal}
 use Rattle.line.specs.declared.Call.{Call}
-use Rattle.line.specs.declared.LineAt.{LineAt}
-use Rattle.line.specs.declared.Line.TheVariants.{Good}
 use Rattle.hex_digits.specs.Hex.{digits_of, sum8}
 use Rattle.hex_digits.specs.Frame.{framed}
-use Rattle.line.specs.Calls.{call_bytes, call_in, call_kind, line_for, read_line}
+use Rattle.line.specs.Calls.{call_bytes, call_in, call_kind, read_line}
 use Rattle.buffer.specs.Buffer.{newline, is_newline}
 use Rattle.framing.specs.Framing.{whole_of, line_size}
 use Rattle.framing.proofs.Standing.{framed-end, framed-size}
@@ -63,11 +62,11 @@ refused-unwritten fields target why e = by (is_call_body fields) (ltb (length ta
     by true true e = refl
     by true false e = absurd (let z : ◌≡◌ {A = ℕ} 0 1 = cc in omega arith)
 
-reads : (call : Call) → CallFits call → read_line (framed (call_bytes call)) ≡ Good call
+reads : (call : Call) → CallFits call → read_line (framed (call_bytes call)) ≡ Some call
 unfolding read_line call_kind
-reads call f = ap line_for (calls-faithful.reads_back call f)
+reads call f = calls-faithful.reads_back call f
 
-at_front : (call : Call) (rest : List ℕ) → CallFits call → call_at (framed (call_bytes call) ++ (newline ∷ rest)) 0 ≡ LineAt.Good call (line_size (call_bytes call))
+at_front : (call : Call) (rest : List ℕ) → CallFits call → call_at (framed (call_bytes call) ++ (newline ∷ rest)) 0 ≡ Some (call, line_size (call_bytes call))
 unfolding call_at
 at_front call rest f =
     let body = call_bytes call in

@@ -1,10 +1,9 @@
 -- What the program reads of a line that was written.
 -- Assumes nothing.
-use Rattle.std.specs.Prelude.{ℕ, ◌≤◌, ◌<◌, ◌≡◌, List, [], ◌∷◌, length, drop}
+use Rattle.std.specs.Prelude.{ℕ, ◌≤◌, ◌<◌, ◌≡◌, List, [], ◌∷◌, length, drop, Some}
 use Rattle.def.specs.declared.Refusal.{Refusal}
 use Rattle.line.specs.declared.Call.{Call}
 use Rattle.line.specs.declared.Call.TheVariants.{PutPic}
-use Rattle.line.specs.declared.LineAt.{LineAt}
 use Rattle.line.specs.Calls.{call_bytes}
 use Rattle.framing.specs.Framing.{line_size}
 use Rattle.line.specs.Lines.{call_at}
@@ -15,7 +14,7 @@ use Rattle.writer.specs.Writing.{written_out, written}
 -- The program's reader finds the call at the front of the buffer, and stands behind the line; what stood there is as it was.
 pub record ReadsWritten (call : Call) (target : List ℕ) : Type 0 where
   pub given : (written (call_bytes call) target).given ≡ Written.Line (line_size (call_bytes call))
-  pub read : call_at (written (call_bytes call) target).target 0 ≡ LineAt.Good call (line_size (call_bytes call))
+  pub read : call_at (written (call_bytes call) target).target 0 ≡ Some (call, line_size (call_bytes call))
   pub behind : drop (line_size (call_bytes call)) (written (call_bytes call) target).target ≡ drop (line_size (call_bytes call)) target
 
 abbrev pub WrittenIsRead : Type 0

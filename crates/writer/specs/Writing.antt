@@ -2,8 +2,7 @@
 -- given is how many bytes that took; behind them the buffer is as it was. First 18, for fields that are no call's, as flags above 15; then 20, for a
 -- line that with its newline does not fit. Under both the buffer is untouched.
 -- Assumes nothing.
-use Rattle.std.specs.Prelude.{ℕ, ◌≤◌, ◌≡◌, Bool, true, false, cond, List, [], ◌∷◌, ◌++◌, ltb, length, take}
-use Rattle.std.proofs.Math.Option.{Option, none, some}
+use Rattle.std.specs.Prelude.{ℕ, ◌≤◌, ◌≡◌, Bool, true, false, cond, List, [], ◌∷◌, ◌++◌, ltb, length, take, Option, Some, None}
 use Rattle.std.proofs.Math.Seq.{paste}
 use Rattle.def.specs.declared.Refusal.{Refusal}
 use Rattle.line.specs.declared.Call.{Call}
@@ -22,8 +21,8 @@ abbrev pub written_out : Written → List ℕ → WrittenOut
 written_out given target = record { given = given; target = target }
 
 abbrev pub is_some : Option Call → Bool
-is_some (some call) = true
-is_some none = false
+is_some (Some call) = true
+is_some None = false
 
 abbrev pub is_call_body : List ℕ → Bool
 is_call_body fields = is_some (call_in fields)

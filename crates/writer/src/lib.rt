@@ -7,7 +7,7 @@ ghost use Rattle.writer.specs.Writing.{is_call_body, short_body, long_body, Hold
 
 use def::Refusal;
 use framing::write_framed;
-use line::{Call, GET_EMPTY_PIC, INIT, Line, OUT_PIC, POC_DERIVATION, PUT_PIC, REFP_INIT};
+use line::{Call, GET_EMPTY_PIC, INIT, OUT_PIC, POC_DERIVATION, PUT_PIC, REFP_INIT};
 use parsing::call_in;
 
 const LONGEST_BODY: usize = 12;
@@ -15,7 +15,7 @@ const LONGEST_BODY: usize = 12;
 // The length of the line that was written, its newline counted; or why none was, and then no byte of the buffer has changed.
 #[derive(Clone, Copy)]
 pub enum Written {
-    Line(usize),
+    Option<Call>(usize),
     Refused(Refusal),
 }
 

@@ -2,7 +2,7 @@
 -- Assumes nothing.
 use Rattle.std.proofs.Common.{ℕ, List, sym, ap, ◌∙◌, refl}
 use Rattle.framing.proofs.Framed.{body-at-front}
-use Rattle.line.specs.Calls.{call_in, line_for}
+use Rattle.line.specs.Calls.{call_in}
 use Rattle.line.proofs.CallLaws.{too_long}
 use Rattle.line.proofs.Reading.{not-framed, framed-line}
 use Rattle.parsing.proofs.read_line.Goals as goal
@@ -17,5 +17,5 @@ pub returns : goal.returns
 returns c =
     let framed = c.if-not-read_framed.ensures in
     c.call_in.ensures
-    ∙ ap (λ (b : List ℕ). line_for (call_in b)) (body-at-front _ _ (framed.bytes refl))
+    ∙ ap (λ (b : List ℕ). call_in b) (body-at-front _ _ (framed.bytes refl))
     ∙ sym (framed-line _ (sym framed.framed))

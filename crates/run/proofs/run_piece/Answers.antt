@@ -1,6 +1,7 @@
 -- `run::run_piece` meets its contract. The loop's invariant is `Going`: the answers so far stand at the front of the output, and the run goes
 -- on from the machine, the line and the place that it has come to. The measure is what is left of the piece.
 -- Assumes nothing.
+use Rattle.std.specs.Prelude.{Option}
 use Prim.Native.Nat.{ℕ, ◌-◌, ◌≤◌, ◌<◌}
 use native.Mathlib.Omega.{arith}
 use mathlib.Core.Path.{◌≡◌, refl, sym, ap, ◌∙◌}
@@ -10,7 +11,7 @@ use lib.ListN.{length, take, drop, length-drop}
 use lib.Seq.{take_all}
 use borrow.Author.Tests.{ltb-true, ltb-false}
 use Rattle.line.specs.Lines.{line_end}
-use Rattle.line.specs.declared.{Line.Line}
+use Rattle.line.specs.declared.Call.{Call}
 use Rattle.machine.specs.declared.{Scalars.Scalars, Made.Made}
 use Rattle.machine.specs.Step.{stepped, step_line}
 use Rattle.machine.specs.Running.{machine_in, Makes}
@@ -30,7 +31,7 @@ past-piece : {f : NextLine} {held piece : List ℕ} {at : ℕ} → NextIs f held
 past-piece {piece = piece} {at} n t = ltb-false (line_end piece at) (length piece) (sym n.ends ∙ t)
 
 -- what a call did, as a step of the machine
-made-step : {r : Made} {s : Scalars} {keys rows keys' rows' : List ℕ} (l : Line) → Makes r s keys rows keys' rows' (step_line (machine_in keys rows s) l)
+made-step : {r : Made} {s : Scalars} {keys rows keys' rows' : List ℕ} (l : Option Call) → Makes r s keys rows keys' rows' (step_line (machine_in keys rows s) l)
     → step_line (machine_in keys rows s) l ≡ stepped r.reply (machine_in keys' rows' r.scalars)
 made-step {s = s} {keys} {rows} l c = rw (c.replies, c.machine_is) refl
 
