@@ -1,9 +1,10 @@
 -- Which lines are answers: those of sixteen digits that are framed.
 -- Assumes nothing.
 use Rattle.std.specs.Prelude.{Some, None}
-use Prim.Native.Nat.{ℕ, ◌%◌}
+use Rattle.std.proofs.lemmas.List.{get_or-take}
+use Prim.Native.Nat.{ℕ, ◌-◌, ◌%◌, ◌<◌}
 use native.Mathlib.Omega.{arith}
-use mathlib.Core.Path.{◌≡◌, refl, ◌∙◌}
+use mathlib.Core.Path.{◌≡◌, refl, sym, ap, ◌∙◌}
 use mathlib.Core.Bool.{Bool, true, false}
 use mathlib.Core.List.{List}
 use lib.Dec.{eqb}
@@ -36,3 +37,24 @@ module _ (cs : List ℕ) where
   an-answer n e =
       let seven : length (body_of (bytes_of cs)) ≡ 7 = omega (arith, bytes-length cs, body-length (bytes_of cs)) in
       of-body answer_kind cs e ∙ rw (eq-eqb (length (body_of (bytes_of cs))) 7 seven)
+
+  body-entry : (bs : List ℕ) → length cs ≡ 16 → bs ≡ bytes_of cs → (k : ℕ) → k < 7 → byte_at (body_of (bytes_of cs)) k ≡ byte_at bs k
+  unfolding body_of
+  body-entry bs n is k h =
+      get_or-take (length (bytes_of cs) - 1) (bytes_of cs) k 0 (omega (arith, bytes-length cs))
+      ∙ ap (λ (b : List ℕ). byte_at b k) (sym is)
+
+  -- The same of its bytes, check byte among them.
+  pub bytes-read : (bs : List ℕ) → length cs ≡ 16 → is_framed cs ≡ true → bs ≡ bytes_of cs
+      → from_line answer_kind cs ≡ Some (reply (byte_at bs 0) (byte_at bs 1) (byte_at bs 2) (word_at bs 3 4 5 6))
+  bytes-read bs n e is =
+      an-answer n e
+      ∙ rw (
+        body-entry bs n is 0 (omega arith),
+        body-entry bs n is 1 (omega arith),
+        body-entry bs n is 2 (omega arith),
+        body-entry bs n is 3 (omega arith),
+        body-entry bs n is 4 (omega arith),
+        body-entry bs n is 5 (omega arith),
+        body-entry bs n is 6 (omega arith),
+      )

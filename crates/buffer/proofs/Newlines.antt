@@ -1,6 +1,8 @@
 -- Where the first newline stands, as the library's search has it and as the definitions do.
 -- Assumes nothing.
-use Rattle.std.proofs.Common.{◌≡◌, ℕ, ◌+◌, ◌≤◌, Bool, true, false, cond, ltb, List, ◌∷◌, length, suc, ap, refl, ◌∙◌, arith, ltb-false}
+use Rattle.std.proofs.Common.{◌≡◌, ℕ, ◌+◌, ◌-◌, ◌≤◌, Bool, true, false, cond, ltb, List, ◌∷◌, length, suc, ap, refl, ◌∙◌, arith, ltb-false}
+use lib.ListN.{take, drop, length-drop}
+use lib.Seq.{take_all}
 use Rattle.std.specs.Prelude.{Option, Some, None, position}
 use Rattle.std.specs.List.{position_or_len}
 use Rattle.std.proofs.lemmas.List.Recursion.{is_position_or_len}
@@ -32,3 +34,7 @@ module _ (p : ℕ → Bool) where
       let within = lowest-le 0 p xs in
       let is = lowest-is xs in
       omega arith
+
+-- What is left from a place on, as a slice has it.
+pub rest-is : (buffer : List ℕ) (from : ℕ) → take (length buffer - from) (drop from buffer) ≡ drop from buffer
+rest-is buffer from = take_all (length buffer - from) (drop from buffer) (omega (arith, length-drop from buffer))

@@ -23,7 +23,7 @@ not-newline = each-digit (λ (c v : ℕ). is_newline c ≡ false) (λ c h k. fro
     from : (c : ℕ) → 10 < c → is_newline c ≡ false
     from c h = ne_eqb c 10 (λ (e : c ≡ 10). omega arith)
 
-first-newline : (ds rest : List ℕ) → all_of is_digit ds ≡ true → lowest is_newline (ds ++ (newline ∷ rest)) ≡ length ds
+pub first-newline : (ds rest : List ℕ) → all_of is_digit ds ≡ true → lowest is_newline (ds ++ (newline ∷ rest)) ≡ length ds
 unfolding all_of lowest
 first-newline [] rest e = refl
 first-newline (d ∷ ds) rest e =

@@ -7,9 +7,9 @@ use mathlib.Core.Bool.{true, false}
 use mathlib.Core.List.{List}
 use lib.Dec.{ltb, eqb}
 use lib.ListN.{length}
-use borrow.Author.Tests.{ne_eqb, eq-eqb, lt-ltb}
+use borrow.Author.Tests.{ne_eqb, eq-eqb, eqb-true, lt-ltb}
 use Rattle.seq.specs.Lists.{all_of}
-use Rattle.seq.proofs.Tests.{and_both}
+use Rattle.seq.proofs.Tests.{and_both, and_left, and_right}
 use Rattle.hex_digits.specs.Hex.{is_digit, is_hex, bytes_of, sum8}
 use Rattle.hex_digits.specs.Frame.{body_of, is_checked, is_framed}
 use Rattle.line.specs.Calls.{call_in, call_kind, call_from, read_line}
@@ -51,3 +51,8 @@ not-framed cs e = unframed call_kind cs e
 pub framed-line : (cs : List ℕ) → is_framed cs ≡ true → read_line cs ≡ call_in (body_of (bytes_of cs))
 unfolding read_line call_kind
 framed-line cs e = of-body call_kind cs e
+
+pub framed-bytes : (cs : List ℕ) → is_framed cs ≡ true → read_line cs ≡ call_from (bytes_of cs)
+framed-bytes cs e =
+    let hex = and_left (is_hex cs) (is_checked (bytes_of cs)) e in
+    hex-line cs (and_left (all_of is_digit cs) (eqb (length cs % 2) 0) hex) (eqb-true (length cs % 2) 0 (and_right (all_of is_digit cs) (eqb (length cs % 2) 0) hex))

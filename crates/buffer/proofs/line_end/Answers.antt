@@ -1,13 +1,9 @@
 -- `buffer::line_end` meets its contract. Assumes nothing.
 use Rattle.std.proofs.Common.{◌≡◌, ℕ, ◌+◌, ◌-◌, List, drop, length, sym, ap, ◌∙◌, arith}
-use lib.ListN.{take, length-drop}
-use lib.Seq.{take_all}
+use lib.ListN.{length-drop}
 use Rattle.buffer.specs.Buffer.{is_newline}
-use Rattle.buffer.proofs.Newlines.{first-at, none-there}
+use Rattle.buffer.proofs.Newlines.{first-at, none-there, rest-is}
 use Rattle.buffer.proofs.line_end.Goals as goal
-
-rest-is : (buffer : List ℕ) (from : ℕ) → take (length buffer - from) (drop from buffer) ≡ drop from buffer
-rest-is buffer from = take_all (length buffer - from) (drop from buffer) (omega (arith, length-drop from buffer))
 
 pub returns-in-Some : goal.returns-in-Some
 returns-in-Some c =

@@ -7,7 +7,7 @@ use Rattle.seq.specs.Lists.{all_of}
 use Rattle.hex_digits.specs.Hex.{is_digit, bytes_of}
 use Rattle.hex_digits.proofs.HexLaws.{both}
 use Rattle.hex_digits.proofs.Pairs.{not-hex, digits-pass, pair-bytes}
-use Rattle.decoding.proofs.Tested.{test-failed, test-passed}
+use Rattle.hex_digits.proofs.Tested.{test-failed, test-passed}
 use Rattle.decoding.proofs.decode.Goals as goal
 
 pub returns-in_err-bytes : goal.returns-in_err-bytes
