@@ -1,5 +1,6 @@
 -- A call that fits its bytes is written where there is room, and stands then at the front as a text.
 -- Assumes nothing.
+use Rattle.std.specs.Prelude.{Ok, Err, Result, is_some}
 use Prim.Native.Nat.{ℕ, ◌≤◌}
 use native.Mathlib.Omega.{arith}
 use mathlib.Core.Path.{◌≡◌, sym, ap, ◌∙◌}
@@ -18,8 +19,7 @@ use Rattle.line.specs.declared.Call.TheVariants.{Init, GetEmptyPic, PutPic, OutP
 use Rattle.line.specs.Calls.{call_bytes, call_kind}
 use Rattle.line.specs.Claims.{CallFits}
 use Rattle.line.proofs.Bodies.{calls-lawful}
-use Rattle.writer.specs.declared.Written.{Written}
-use Rattle.writer.specs.Writing.{WrittenOut, written_out, is_some, is_call_body, written}
+use Rattle.writer.specs.Writing.{WrittenOut, written_out, is_call_body, written}
 use Rattle.phrases.specs.Phrases.{Added}
 use Rattle.phrases.proofs.Adding.{pasted}
 
@@ -43,19 +43,19 @@ module _ (call : Call) (target : List ℕ) (f : CallFits call) (room : 128 ≤ l
   body = call_bytes call
 
   abbrev wrote : WrittenOut
-  wrote = written_out (Written.Line (line_size body)) (paste target 0 (whole_of body) (line_size body))
+  wrote = written_out (Ok (line_size body)) (paste target 0 (whole_of body) (line_size body))
 
   line-written : written body target ≡ wrote
   unfolding written
   line-written = rw (is-call call f, le-ltb (length target) (line_size body) (let m = size-most call in omega arith))
 
-  module _ (r : Written) (after : List ℕ) (e : written_out r after ≡ written body target) where
+  module _ (r : Result ℕ Refusal) (after : List ℕ) (e : written_out r after ≡ written body target) where
     same : written_out r after ≡ wrote
     same = e ∙ line-written
 
-    pub line-added : (n : ℕ) → r ≡ Written.Line n → Added target 0 (whole_of body) n after × (n ≤ 128)
+    pub line-added : (n : ℕ) → r ≡ Ok n → Added target 0 (whole_of body) n after × (n ≤ 128)
     line-added n t =
-        let given : r ≡ Written.Line (line_size body) = ap (λ (w : WrittenOut). w.given) same in
+        let given : r ≡ Ok (line_size body) = ap (λ (w : WrittenOut). w.given) same in
         let size : n ≡ line_size body = cc in
         let text : after ≡ paste target 0 (whole_of body) (line_size body) = ap (λ (w : WrittenOut). w.target) same in
         let long = whole-size body in
@@ -67,8 +67,8 @@ module _ (call : Call) (target : List ℕ) (f : CallFits call) (room : 128 ≤ l
           omega arith,
         )
 
-    pub line-not-refused : (why : Refusal) → r ≡ Written.Refused why → ⊥
+    pub line-not-refused : (why : Refusal) → r ≡ Err why → ⊥
     line-not-refused why t =
-        let given : r ≡ Written.Line (line_size body) = ap (λ (w : WrittenOut). w.given) same in
+        let given : r ≡ Ok (line_size body) = ap (λ (w : WrittenOut). w.given) same in
         let z : ◌≡◌ {A = ℕ} 0 1 = cc in
         omega arith

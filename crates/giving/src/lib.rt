@@ -5,7 +5,6 @@ ghost use Rattle.std.specs.Prelude.{◌≤◌, length, take};
 ghost use Rattle.run.specs.Session.{EndRoom};
 ghost use Rattle.giving.specs.Giving.{Given, Finished, Wrote};
 
-use lookup::TABLE_SIZE;
 use pouring::write_whole;
 use reading::Heard;
 use run::{Session, run_end};
@@ -61,16 +60,15 @@ pub fn finish<W: Write>(
     keys: &mut [u64],
     rows: &mut [u32],
     last: Handed,
-    tables: &[u16; TABLE_SIZE],
     output: &mut W,
     out: &mut [u8],
 ) -> Handed
-    requires { EndRoom keys.old rows.old last.session tables.now out.old }
+    requires { EndRoom keys.old rows.old last.session out.old }
     ensures finished { Finished keys.old rows.old last out.old
         result keys.new rows.new out.new }
     ensures wrote { Wrote result.went (W.contents output.old) (W.contents output.new) (take result.written out.new) }
 {
-    let ran = run_end(keys, rows, last.session, tables, out);
+    let ran = run_end(keys, rows, last.session, out);
     let handed = Handed {
         session: ran.session,
         heard: last.heard,

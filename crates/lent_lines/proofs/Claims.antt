@@ -1,5 +1,6 @@
 -- The claims about the library's functions on lines, proved.
 -- Assumes nothing.
+use Rattle.std.specs.Prelude.{Ok, Err}
 use Prim.Native.Nat.{ℕ, ◌+◌, ◌*◌, ◌/◌, ◌%◌, ◌^◌, ◌<◌, ◌≤◌}
 use native.Mathlib.Omega.{arith}
 use mathlib.Core.Path.{◌≡◌, refl, sym, ap, ◌∙◌}
@@ -15,7 +16,6 @@ use Rattle.def.specs.Word.{word}
 use Rattle.def.proofs.WordLaws.{word-of-bytes}
 use Rattle.reader.specs.declared.Read.{Read}
 use Rattle.reader.specs.Reading.{answer_at, after_line}
-use Rattle.writer.specs.declared.Written.{Written}
 use Rattle.writer.specs.Writing.{written}
 use Rattle.writer.proofs.Claims.{refused-unwritten}
 use Rattle.lent_lines.specs.LentLines.{record_of, record_length, read_out, written_status, written_length, wrote_out}
@@ -106,5 +106,5 @@ unfolding wrote_out
 refused-leaves fields target h = by (written fields target).given refl (rw (status-told fields target) at h)
   where
     by : (w : Written) → (written fields target).given ≡ w → 1 ≤ written_status w → (written fields target).target ≡ target
-    by (Written.Line n) e k = absurd (omega arith)
-    by (Written.Refused why) e k = refused-unwritten fields target why e
+    by (Ok n) e k = absurd (omega arith)
+    by (Err why) e k = refused-unwritten fields target why e

@@ -6,7 +6,6 @@ ghost use Rattle.turning.specs.Turning.{TurnRoom};
 ghost use Rattle.looping.specs.Loop.{is_on, LoopedOver};
 
 use giving::{Handed, Went};
-use lookup::TABLE_SIZE;
 use run::Session;
 use std::io::{Read, Write};
 use turning::turn;
@@ -30,30 +29,19 @@ pub fn turns<R: Read, W: Write>(
     keys: &mut [u64],
     rows: &mut [u32],
     session: Session,
-    tables: &[u16; TABLE_SIZE],
     input: &mut R,
     output: &mut W,
     piece: &mut [u8],
     out: &mut [u8],
 ) -> Handed
-    requires { TurnRoom keys.old rows.old session tables.now piece.old out.old }
+    requires { TurnRoom keys.old rows.old session piece.old out.old }
     ensures { LoopedOver (R.remaining input.old) (R.remaining input.new) (W.contents output.old) (W.contents output.new)
         keys.old rows.old session result keys.new rows.new piece.new out.new }
 {
-    let mut handed = turn(rt, keys, rows, session, tables, input, output, piece, out);
+    let mut handed = turn(rt, keys, rows, session, input, output, piece, out);
     let mut left = u64::MAX;
     while 0 < left && goes_on(handed) {
-        handed = turn(
-            rt,
-            keys,
-            rows,
-            handed.session,
-            tables,
-            input,
-            output,
-            piece,
-            out,
-        );
+        handed = turn(rt, keys, rows, handed.session, input, output, piece, out);
         left -= 1;
     }
     handed

@@ -23,7 +23,7 @@ pub record Found (piece : List ℕ) (at : ℕ) (call : Call) (next : ℕ) : Type
   pub says : read_line (line_at piece at) ≡ Some call
   pub behind : next ≡ line_end piece at + 1
 
-other-good : {call : Call} {next : ℕ} → None ≡ Some (call, next) → ⊥
+other-good : {A : Type 0} {a : A} → None ≡ Some a → ⊥
 other-good e = let z : ◌≡◌ {A = ℕ} 0 1 = cc in omega arith
 
 whole-good : (l : Option Call) (call : Call) (next end : ℕ) → whole_line l end ≡ Some (call, next) → (l ≡ Some call) × (next ≡ end)
@@ -37,10 +37,10 @@ whole-good (Some c) call next end e = (ap Some (same-call e), sym (same_next e))
     next_of (Some (k, n)) = n
     next_of None = next
 
-    same-call : Some (c, end) ≡ Some (call, next) → c ≡ call
+    same-call : ◌≡◌ {A = Option (Call × ℕ)} (Some (c, end)) (Some (call, next)) → c ≡ call
     same-call e = ap call_of e
 
-    same_next : Some (c, end) ≡ Some (call, next) → end ≡ next
+    same_next : ◌≡◌ {A = Option (Call × ℕ)} (Some (c, end)) (Some (call, next)) → end ≡ next
     same_next e = ap next_of e
 whole-good None call next end e = absurd (other-good e)
 

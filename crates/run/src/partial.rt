@@ -5,7 +5,7 @@ ghost use Rattle.line.specs.Calls.{read_line};
 ghost use Rattle.run.specs.Partial.{kept_length, held_line, Room};
 
 use buffer::paste;
-use line::Line;
+use line::Call;
 use parsing::{LONGEST_LINE, read_line};
 
 pub const KEPT: usize = LONGEST_LINE + 1;

@@ -6,7 +6,6 @@ use Rattle.std.proofs.lemmas.List.{length-replicate}
 use Rattle.def.specs.State.{slots}
 use Rattle.keys.specs.Keys.{rows_length}
 use Rattle.whole.specs.Whole.{whole}
-use Rattle.hex_digits.specs.Hex.{digit_tables}
 use Rattle.machine.specs.declared.Machine.{Machine}
 use Rattle.machine.specs.Running.{Runs}
 use Rattle.machine.proofs.Running.{new-machine}
@@ -31,9 +30,9 @@ new-runs s new = record {
 }
 
 -- The loop begins with room for an answer to each byte of a piece: by the two sizes.
-pub new-room : {s : Session} {tables : List ℕ} (piece out : List ℕ) {n m : ℕ} → NewSession s → tables ≡ digit_tables → length piece ≡ n → length out ≡ m
-    → answer_size * n ≤ m → answer_size ≤ m → TurnRoom new_keys new_rows s tables piece out
-new-room piece out new e p o many one = record { sound = new-runs _ new; tables_are = e; answers_fit = rw (p, o) many; answer_fits = rw o one }
+pub new-room : {s : Session} (piece out : List ℕ) {n m : ℕ} → NewSession s → length piece ≡ n → length out ≡ m
+    → answer_size * n ≤ m → answer_size ≤ m → TurnRoom new_keys new_rows s piece out
+new-room piece out new p o many one = record { sound = new-runs _ new; answers_fit = rw (p, o) many; answer_fits = rw o one }
 
 pub is-end : (w : Went) → is_end w ≡ true → w ≡ InputEnded
 is-end On h = cc

@@ -12,7 +12,6 @@ ghost use Rattle.serve.specs.Served.{is_end, Served, ServedNew, Passed};
 
 use giving::{Handed, Went, finish};
 use keys::{ROWS, SLOTS};
-use lookup::{TABLE_SIZE, digit_tables};
 use looping::turns;
 use run::{Session, new_session};
 use std::io::{Read, Write};
@@ -41,20 +40,19 @@ fn serve_lines<R: Read, W: Write>(
     keys: &mut [u64],
     rows: &mut [u32],
     session: Session,
-    tables: &[u16; TABLE_SIZE],
     input: &mut R,
     output: &mut W,
     piece: &mut [u8],
     out: &mut [u8],
 ) -> Handed
-    requires { TurnRoom keys.old rows.old session tables.now piece.old out.old }
+    requires { TurnRoom keys.old rows.old session piece.old out.old }
     ensures served { Served result.went keys.old rows.old session result keys.new rows.new piece.new out.new }
     ensures passed { Passed result.went (R.remaining input.old) (R.remaining input.new) (W.contents output.old) (W.contents output.new)
         keys.old rows.old session result keys.new rows.new piece.new out.new }
 {
-    let last = turns(rt, keys, rows, session, tables, input, output, piece, out);
+    let last = turns(rt, keys, rows, session, input, output, piece, out);
     if has_ended(last) {
-        return finish(rt, keys, rows, last, tables, output, out);
+        return finish(rt, keys, rows, last, output, out);
     }
     last
 }
@@ -71,9 +69,8 @@ pub fn serve<R: Read, W: Write>(rt: &impl Eprint, input: &mut R, output: &mut W)
     let mut rows = [0u32; ROWS];
     let mut piece = [0u8; PIECE];
     let mut out = [0u8; ANSWERS];
-    let tables = digit_tables();
     let session = new_session();
     serve_lines(
-        rt, &mut keys, &mut rows, session, &tables, input, output, &mut piece, &mut out,
+        rt, &mut keys, &mut rows, session, input, output, &mut piece, &mut out,
     )
 }

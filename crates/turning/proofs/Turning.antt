@@ -43,10 +43,10 @@ turned-sound out t piece' out' sound ReadFailed i = idle-sound sound i.0
 turned-sound out t piece' out' sound LastWriteFailed i = absurd i
 
 -- A turn keeps the room for the next.
-pub still-room : {keys rows tables piece out keys' rows' piece' out' : List ℕ} {s : Session} (t : Handed)
-    → TurnRoom keys rows s tables piece out → Turned t.went keys rows s out t keys' rows' piece' out'
-    → length piece' ≡ length piece → length out' ≡ length out → TurnRoom keys' rows' t.session tables piece' out'
+pub still-room : {keys rows piece out keys' rows' piece' out' : List ℕ} {s : Session} (t : Handed)
+    → TurnRoom keys rows s piece out → Turned t.went keys rows s out t keys' rows' piece' out'
+    → length piece' ≡ length piece → length out' ≡ length out → TurnRoom keys' rows' t.session piece' out'
 still-room {out = out} {piece' = piece'} {out' = out'} t room turned p o =
     let a = room.answers_fit in
     let b = room.answer_fits in
-    record { sound = turned-sound out t piece' out' room.sound t.went turned; tables_are = room.tables_are; answers_fit = omega arith; answer_fits = omega arith }
+    record { sound = turned-sound out t piece' out' room.sound t.went turned; answers_fit = omega arith; answer_fits = omega arith }

@@ -1,17 +1,15 @@
 -- What a turn of the program's loop hands on, as far as it does not depend on what the reader and the writer are.
 -- Assumes nothing.
 use Rattle.std.specs.Prelude.{ℕ, ◌*◌, ◌<◌, ◌≤◌, ◌≡◌, List, length, take, Ok, IsErr}
-use Rattle.hex_digits.specs.Hex.{digit_tables}
 use Rattle.run.specs.declared.Session.{Session}
 use Rattle.run.specs.Session.{answer_size, SoundSession, RanOver}
 use Rattle.reading.specs.Reading.{Patient, brought}
 use Rattle.giving.specs.declared.{Went.Went, Handed.Handed}
 use Rattle.giving.specs.declared.Went.TheVariants.{On, InputEnded, ReadFailed, WriteFailed, LastWriteFailed}
 
--- What a turn finds: a session whose state is whole, the digit tables, and room for an answer to each byte.
-pub record TurnRoom (keys rows : List ℕ) (s : Session) (tables piece out : List ℕ) : Type 0 where
+-- What a turn finds: a session whose state is whole, and room for an answer to each byte.
+pub record TurnRoom (keys rows : List ℕ) (s : Session) (piece out : List ℕ) : Type 0 where
   pub sound : SoundSession keys rows s
-  pub tables_are : tables ≡ digit_tables
   pub answers_fit : answer_size * length piece ≤ length out
   pub answer_fits : answer_size ≤ length out
 

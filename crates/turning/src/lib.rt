@@ -7,7 +7,6 @@ ghost use Rattle.giving.specs.Giving.{Wrote};
 ghost use Rattle.turning.specs.Turning.{TurnRoom, Turned, brought_by};
 
 use giving::{Handed, Went, give};
-use lookup::TABLE_SIZE;
 use reading::{Heard, read_some};
 use run::{Session, run_piece};
 use std::io::{Read, Write};
@@ -30,13 +29,12 @@ pub fn turn<R: Read, W: Write>(
     keys: &mut [u64],
     rows: &mut [u32],
     session: Session,
-    tables: &[u16; TABLE_SIZE],
     input: &mut R,
     output: &mut W,
     piece: &mut [u8],
     out: &mut [u8],
 ) -> Handed
-    requires { TurnRoom keys.old rows.old session tables.now piece.old out.old }
+    requires { TurnRoom keys.old rows.old session piece.old out.old }
     ensures handed { Turned result.went keys.old rows.old session out.old
         result keys.new rows.new piece.new out.new }
     ensures sizes { (length piece.new ≡ length piece.old)
@@ -53,7 +51,7 @@ pub fn turn<R: Read, W: Write>(
         }
         Ok(0) => idle(session, heard, Went::InputEnded),
         Ok(n) => {
-            let ran = run_piece(keys, rows, session, tables, &piece[..n], out);
+            let ran = run_piece(keys, rows, session, &piece[..n], out);
             let handed = Handed {
                 session: ran.session,
                 heard,

@@ -1,6 +1,6 @@
 -- The claims about the writer, proved.
 -- Assumes nothing.
-use Rattle.std.specs.Prelude.{Some}
+use Rattle.std.specs.Prelude.{Some, Ok, Err, is_some}
 use Prim.Native.Nat.{ℕ, ◌+◌, ◌<◌, ◌≤◌}
 use native.Mathlib.Omega.{arith}
 use mathlib.Core.Path.{◌≡◌, refl, sym, ap, ◌∙◌}
@@ -22,8 +22,7 @@ use Rattle.framing.proofs.Standing.{framed-end, framed-size}
 use Rattle.line.specs.Lines.{call_at}
 use Rattle.line.specs.Claims.{CallFits}
 use Rattle.line.proofs.Bodies.{calls-lawful, calls-faithful}
-use Rattle.writer.specs.declared.Written.{Written}
-use Rattle.writer.specs.Writing.{WrittenOut, written_out, is_some, is_call_body, written}
+use Rattle.writer.specs.Writing.{WrittenOut, written_out, is_call_body, written}
 use Rattle.writer.specs.Claims.{WrittenIsRead, NoRoomIsTwenty, FlagsBeforeRoom, RefusedUnwritten, GetIntoSix, GetIntoFour}
 
 is-call : (call : Call) → CallFits call → is_call_body (call_bytes call) ≡ true
@@ -53,11 +52,11 @@ refused-unwritten fields target why e = by (is_call_body fields) (ltb (length ta
     left : Bool → Bool → WrittenOut
     left a b =
         cond a
-        (cond b (written_out (Written.Refused Refusal.NoRoom) target)
-        (written_out (Written.Line (line_size fields)) (paste target 0 (whole_of fields) (line_size fields))))
-        (written_out (Written.Refused Refusal.BadLine) target)
+        (cond b (written_out (Err Refusal.NoRoom) target)
+        (written_out (Ok (line_size fields)) (paste target 0 (whole_of fields) (line_size fields))))
+        (written_out (Err Refusal.BadLine) target)
 
-    by : (a b : Bool) → (left a b).given ≡ Written.Refused why → (left a b).target ≡ target
+    by : (a b : Bool) → (left a b).given ≡ Err why → (left a b).target ≡ target
     by false b e = refl
     by true true e = refl
     by true false e = absurd (let z : ◌≡◌ {A = ℕ} 0 1 = cc in omega arith)
@@ -97,7 +96,7 @@ pub written-is-read : WrittenIsRead
 unfolding written
 written-is-read call target f h =
     let body = call_bytes call in
-    let all : written body target ≡ written_out (Written.Line (line_size body)) (paste target 0 (whole_of body) (line_size body)) =
+    let all : written body target ≡ written_out (Ok (line_size body)) (paste target 0 (whole_of body) (line_size body)) =
     rw (is-call call f, le-ltb (length target) (line_size body) h) in
     record {
       given = rw all;

@@ -20,5 +20,5 @@ returns-clause-beginning g c =
 
 pub serve_lines-requires : goal.serve_lines-requires
 serve_lines-requires g c =
-    new-room _ _ c.new_session-session.ensures c.digit_tables-tables.ensures (length-replicate {A = ℕ} PIECE 0) (length-replicate {A = ℕ} ANSWERS 0)
+    new-room _ _ c.new_session-session.ensures (length-replicate {A = ℕ} PIECE 0) (length-replicate {A = ℕ} ANSWERS 0)
     (omega arith) (omega arith)

@@ -13,4 +13,4 @@ pub finish-requires : goal.finish-requires
 finish-requires g c =
     let o = c.turns-last.auto.out in
     let a = c.requires.answer_fits in
-    record { sound = turns-sound c.turns-last.ensures.looped.turns c.requires.sound; tables_are = c.requires.tables_are; answer_fits = omega arith }
+    record { sound = turns-sound c.turns-last.ensures.looped.turns c.requires.sound; answer_fits = omega arith }
