@@ -12,7 +12,7 @@ use commands::read_command;
 use concluding::Command;
 use expecting::{SHORTER, complain};
 use line::Call;
-use writer::{Written, write_call};
+use writer::write_call;
 
 // How long a line may be.
 pub const LONGEST: usize = 1023;
@@ -31,8 +31,8 @@ fn write_line(out: &mut [u8], call: Call) -> usize
     ensures short { result ≤ 128 }
 {
     match write_call(call, out) {
-        Written::Line(n) => n,
-        Written::Refused(_) => 0,
+        Ok(n) => n,
+        Err(_) => 0,
     }
 }
 

@@ -1,7 +1,7 @@
 -- One picture, one file: the decoder files a picture under the number that is handed over. Over any run of lines from the new machine,
 -- what was put and wanted is handed over exactly once, or still waits.
 -- Assumes nothing.
-use Rattle.std.specs.Prelude.{ℕ, ◌+◌, ◌≤◌, ◌≡◌, Bool, cond, ◌&&◌, eqb, length, Option, Some, None}
+use Rattle.std.specs.Prelude.{ℕ, ◌+◌, ◌≤◌, ◌≡◌, Bool, cond, ◌&&◌, eqb, length, Option, Some, None, Ok}
 use mathlib.Core.List.{List, [], ◌∷◌, map, flat_map}
 use Rattle.seq.specs.Lists.{count_if, select, Distinct}
 use Rattle.def.specs.declared.Slot.{Slot}
@@ -11,7 +11,6 @@ use Rattle.poc.specs.Clip.{Clip}
 use Rattle.line.specs.declared.{Call.Call, Reply.Reply}
 use Rattle.line.specs.Calls.{read_line}
 use Rattle.line.specs.Answers.{answer_line}
-use Rattle.reader.specs.declared.Read.{Read}
 use Rattle.reader.specs.Reading.{reads_from}
 use Rattle.machine.specs.declared.Machine.{Machine}
 use Rattle.machine.specs.Step.{new_machine, put_call_of, step_line}
@@ -45,7 +44,7 @@ replies ts = map (λ (t : Turn). t.reply) ts
 abbrev pub ProgramIsRead : Type 0
 ProgramIsRead =
     (input : List ℕ) (n : ℕ) → length (program input) ≤ n
-    → reads_from n (program input) 0 ≡ map Read.Answer (replies (turns new_machine (map read_line (lines_from [] input))))
+    → reads_from n (program input) 0 ≡ map Ok (replies (turns new_machine (map read_line (lines_from [] input))))
 
 -- A number under a condition.
 abbrev pub if_so : Bool → ℕ → List ℕ

@@ -1,6 +1,6 @@
 -- How large the two parts can be that the writer's answer is made of.
 -- Assumes nothing.
-use Rattle.std.specs.Prelude.{Ok, Err}
+use Rattle.std.specs.Prelude.{Result, Ok, Err}
 use Prim.Native.Nat.{ℕ, ◌≤◌}
 use native.Mathlib.Omega.{arith}
 use mathlib.Core.Path.{◌≡◌, refl}
@@ -16,7 +16,7 @@ use Rattle.writer.specs.Writing.{WrittenOut, written_out, is_call_body, written}
 use Rattle.writer.proofs.Sizes.{body-size}
 use Rattle.lent_lines.specs.LentLines.{written_status, written_length}
 
-pub status-small : (w : Written) → written_status w ≤ 20
+pub status-small : (w : Result ℕ Refusal) → written_status w ≤ 20
 status-small (Ok n) = omega arith
 status-small (Err why) = let h = (refusals-in-use why).1 in omega arith
 

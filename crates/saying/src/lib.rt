@@ -5,7 +5,7 @@ ghost use Rattle.std.specs.Prelude.{◌+◌, ◌≤◌, ◌<◌, length};
 ghost use Rattle.phrases.specs.Phrases.{Added};
 ghost use Rattle.saying.specs.Words.{call_name, turned_down, done_words, status_words, answer_words, bad_line_words, said_line};
 
-use answers::{AnswerLine, read_answer};
+use answers::read_answer;
 use line::{NO_BUFFER, NO_MORE, NOT_YET, POC_DERIVATION, REFP_INIT, Reply};
 use phrases::{add, add_entry, add_number};
 use showing::{add_counts, add_picture, add_signed};
@@ -119,7 +119,7 @@ pub fn say_line(out: &mut [u8], line: &[u8], number: u64) -> usize
     ensures short { result ≤ 128 }
 {
     match read_answer(line) {
-        AnswerLine::Good(reply) => say_answer(out, reply),
-        AnswerLine::Bad => say_bad(out, number),
+        Some(reply) => say_answer(out, reply),
+        None => say_bad(out, number),
     }
 }
