@@ -5,7 +5,7 @@ ghost use Rattle.std.specs.Prelude.{◌≡◌};
 ghost use Rattle.running.specs.Slices.{slices};
 ghost use Rattle.answering.specs.Answered.{answer_word, OnSlices};
 
-use line::{Line, Reply};
+use line::Reply;
 use running::reply_on;
 
 // A reply as one number, the form in which C gets it.
@@ -15,7 +15,7 @@ pub fn answer_word(reply: Reply) -> u64
     u64::from(reply.value) * 0x1_0000_0000 + u64::from(reply.buf) * 256 + u64::from(reply.status)
 }
 
-pub fn answer_on(keys: &mut [u64], rows: &mut [u32], registers: &mut [u32], line: Line) -> u64
+pub fn answer_on(keys: &mut [u64], rows: &mut [u32], registers: &mut [u32], line: Option<Call>) -> u64
     ensures { let before = slices keys.old rows.old registers.old in
         let after = slices keys.new rows.new registers.new in
         OnSlices result line before after }

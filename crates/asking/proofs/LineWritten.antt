@@ -1,6 +1,7 @@
 -- A call that fits its bytes is written where there is room, and stands then at the front as a text.
 -- Assumes nothing.
 use Prim.Native.Nat.{ℕ, ◌+◌, ◌≤◌}
+use Rattle.std.specs.Prelude.{Ok, Err, Result, is_some}
 use native.Mathlib.Omega.{arith}
 use mathlib.Core.Path.{◌≡◌, sym, ap, ◌∙◌}
 use mathlib.Core.Bool.{true}
@@ -20,6 +21,7 @@ use Rattle.line.specs.Claims.{CallFits}
 use Rattle.line.proofs.Bodies.{calls-lawful}
 use Rattle.writer.specs.declared.Written.{Written}
 use Rattle.writer.specs.Writing.{WrittenOut, written_out, is_some, is_call_body, written}
+use Rattle.phrases.specs.Phrases.{Added}
 use Rattle.phrases.proofs.Adding.{pasted}
 
 size-most : (call : Call) → line_size (call_bytes call) ≤ 27
@@ -42,19 +44,19 @@ module _ (call : Call) (target : List ℕ) (f : CallFits call) (room : 27 ≤ le
   body = call_bytes call
 
   abbrev wrote : WrittenOut
-  wrote = written_out (Written.Line (line_size body)) (paste target 0 (whole_of body) (line_size body))
+  wrote = written_out (Ok (line_size body)) (paste target 0 (whole_of body) (line_size body))
 
   line-written : written body target ≡ wrote
   unfolding written
   line-written = rw (is-call call f, le-ltb (length target) (line_size body) (let m = size-most call in omega arith))
 
-  module _ (r : Written) (after : List ℕ) (e : written_out r after ≡ written body target) where
+  module _ (r : Result ℕ Refusal) (after : List ℕ) (e : written_out r after ≡ written body target) where
     same : written_out r after ≡ wrote
     same = e ∙ line-written
 
-    pub line-given : (n : ℕ) → r ≡ Written.Line n → take n after ≡ whole_of body
+    pub line-given : (n : ℕ) → r ≡ Ok n → take n after ≡ whole_of body
     line-given n t =
-        let given : r ≡ Written.Line (line_size body) = ap (λ (w : WrittenOut). w.given) same in
+        let given : r ≡ Ok (line_size body) = ap (λ (w : WrittenOut). w.given) same in
         let size : n ≡ line_size body = cc in
         let text : after ≡ paste target 0 (whole_of body) (line_size body) = ap (λ (w : WrittenOut). w.target) same in
         let long = whole-size body in
@@ -63,8 +65,8 @@ module _ (call : Call) (target : List ℕ) (f : CallFits call) (room : 27 ≤ le
         text ∙ ap (paste target 0 (whole_of body)) (sym long) ∙ pasted target (whole_of body) 0 (omega arith) in
         ap (take n) (front ∙ sets-eq (whole_of body) target 0 (omega arith)) ∙ take_at (whole_of body) (drop (0 + length (whole_of body)) target) n (omega arith)
 
-    pub line-not-refused : (why : Refusal) → r ≡ Written.Refused why → ⊥
+    pub line-not-refused : (why : Refusal) → r ≡ Err why → ⊥
     line-not-refused why t =
-        let given : r ≡ Written.Line (line_size body) = ap (λ (w : WrittenOut). w.given) same in
+        let given : r ≡ Ok (line_size body) = ap (λ (w : WrittenOut). w.given) same in
         let z : ◌≡◌ {A = ℕ} 0 1 = cc in
         omega arith

@@ -12,7 +12,7 @@ use commands::{Expected, read_command};
 use expecting::complain;
 use line::Call;
 use phrases::Sentence;
-use writer::{Written, write_call};
+use writer::write_call;
 
 // How long a line may be.
 pub const LONGEST: usize = 1023;
@@ -30,8 +30,8 @@ fn call_line(call: Call) -> CallLine
     let written = write_call(call, &mut bytes);
     let mut line = ArrayVec::from_array_in((), bytes);
     match written {
-        Written::Line(n) => line.truncate(n),
-        Written::Refused(_) => {}
+        Ok(n) => line.truncate(n),
+        Err(_) => {}
     }
     line
 }

@@ -2,36 +2,35 @@
 // The derivation, which goes a road of its own, stands in crate `recording`.
 #![tactic(auto)]
 
-ghost use Rattle.std.specs.Prelude.{◌≡◌};
+ghost use Rattle.std.specs.Prelude.{◌≡◌, Some};
 ghost use Rattle.line.specs.declared.Call.TheVariants.{Init, GetEmptyPic, OutPic, RefpInit};
-ghost use Rattle.line.specs.declared.Line.TheVariants.{Good};
 ghost use Rattle.call_lines.specs.PutLine.{put_line};
 
-use line::{Call, HIGHEST_FLAGS, Line};
+use line::{Call, HIGHEST_FLAGS};
 
-pub fn init_line(max_pb_size: u8, max_num_ref_pics: u8) -> Line
-    ensures { result ≡ Good (Init max_pb_size max_num_ref_pics) }
+pub fn init_line(max_pb_size: u8, max_num_ref_pics: u8) -> Option<Call>
+    ensures { result ≡ Some (Init max_pb_size max_num_ref_pics) }
 {
-    Line::Good(Call::Init {
+    Line::Some(Call::Init {
         max_pb_size,
         max_num_ref_pics,
     })
 }
 
-pub fn get_line() -> Line
-    ensures { result ≡ Good GetEmptyPic }
+pub fn get_line() -> Option<Call>
+    ensures { result ≡ Some GetEmptyPic }
 {
-    Line::Good(Call::GetEmptyPic)
+    Line::Some(Call::GetEmptyPic)
 }
 
 // Flags that no call line may have make a bad line.
-pub fn put_line(flags: u8, poc: u32, temporal_id: u8, ref_pic_gap_length: u32) -> Line
+pub fn put_line(flags: u8, poc: u32, temporal_id: u8, ref_pic_gap_length: u32) -> Option<Call>
     ensures { result ≡ put_line flags poc temporal_id ref_pic_gap_length }
 {
     if HIGHEST_FLAGS < flags {
-        return Line::Bad;
+        return Line::None;
     }
-    Line::Good(Call::PutPic {
+    Line::Some(Call::PutPic {
         flags,
         poc,
         temporal_id,
@@ -39,10 +38,10 @@ pub fn put_line(flags: u8, poc: u32, temporal_id: u8, ref_pic_gap_length: u32) -
     })
 }
 
-pub fn out_line() -> Line
-    ensures { result ≡ Good OutPic }
+pub fn out_line() -> Option<Call>
+    ensures { result ≡ Some OutPic }
 {
-    Line::Good(Call::OutPic)
+    Line::Some(Call::OutPic)
 }
 
 pub fn lists_line(
@@ -51,10 +50,10 @@ pub fn lists_line(
     layer_id: u8,
     last_intra: u32,
     max_num_ref_pics: u8,
-) -> Line
-    ensures { result ≡ Good (RefpInit slice_type poc layer_id last_intra max_num_ref_pics) }
+) -> Option<Call>
+    ensures { result ≡ Some (RefpInit slice_type poc layer_id last_intra max_num_ref_pics) }
 {
-    Line::Good(Call::RefpInit {
+    Line::Some(Call::RefpInit {
         slice_type,
         poc,
         layer_id,

@@ -1,29 +1,35 @@
-// Pairs of digits decoded into lent bytes. Reading a framed line calls this; it has tested the lengths.
+// Pairs of digits decoded into bytes. Reading a framed line calls this; it has tested the lengths.
 #![tactic(auto)]
 
-ghost use Rattle.std.specs.Prelude.{◌≡◌, true, ◌*◌, ◌/◌, ◌%◌, ◌≤◌, length, take};
+ghost use Rattle.std.specs.Prelude.{◌≡◌, ◌+◌, ◌*◌, ◌&&◌, cond, length, Some, None};
 ghost use Rattle.seq.specs.Lists.{all_of};
-ghost use Rattle.hex_digits.specs.Hex.{is_digit, bytes_of};
+ghost use Rattle.hex_digits.specs.Hex.{is_digit, digit_value, bytes_of};
 
-use hex_digits::{is_digit, pair_value};
+use hex_digits::char_value;
 
-// Writes the bytes that pairs of digits stand for, up to the first pair that is not two digits; says whether all are.
-pub fn decode(digits: &[u8], bytes: &mut [u8]) -> bool
-    requires { (length digits.now ≤ 2 * length bytes.old) × (length digits.now % 2 ≡ 0) }
-    ensures hex { result ≡ all_of is_digit digits.now }
-    ensures bytes { let characters = digits.now in
-        (result ≡ true → take (length characters / 2) bytes.new ≡ bytes_of characters) }
+// The byte of a pair of digits.
+fn pair_value(high: u8, low: u8) -> Option<u8>
+    ensures { let digits = is_digit high && is_digit low in
+        result ≡ cond digits (Some (16 * digit_value high + digit_value low)) None }
 {
-    let n = digits.len() / 2;
-    let mut i = 0;
-    while i < n {
-        let high = digits[2 * i];
-        let low = digits[2 * i + 1];
-        if !(is_digit(high) & is_digit(low)) {
-            return false;
-        }
-        bytes[i] = pair_value(high, low);
-        i += 1;
+    let high_value = char_value(high);
+    let low_value = char_value(low);
+    if (high_value < 16) & (low_value < 16) {
+        Some(16 * high_value + low_value)
+    } else {
+        None
     }
-    true
+}
+
+/// The bytes that pairs of digits stand for, where all are digits.
+pub fn decode<const N: usize>(digits: &[u8]) -> Option<[u8; N]>
+    requires { length digits.now ≡ 2 * N }
+    ensures { let characters = digits.now in
+        result ≡ cond (all_of is_digit characters) (Some (bytes_of characters)) None }
+{
+    let mut bytes = [0; N];
+    for i in 0..N {
+        bytes[i] = pair_value(digits[2 * i], digits[2 * i + 1])?;
+    }
+    Some(bytes)
 }

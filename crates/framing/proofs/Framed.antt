@@ -1,11 +1,11 @@
 -- What each test of a line's characters decides, and what a framed line says, whatever its kind.
 -- Assumes nothing.
+use Rattle.std.specs.Prelude.{Option, Some, None}
 use Prim.Native.Nat.{ℕ, ◌-◌, ◌/◌, ◌%◌, ◌<◌}
 use native.Mathlib.Omega.{arith}
 use mathlib.Core.Path.{◌≡◌, refl, sym, ap, ◌∙◌}
 use mathlib.Core.Bool.{Bool, true, false, cond, ◌&&◌}
 use mathlib.Core.List.{List}
-use mathlib.Core.Option.{Option, none}
 use lib.Dec.{ltb, eqb}
 use lib.ListN.{length, take}
 use lib.Seq.{take-take}
@@ -42,17 +42,17 @@ module _ (cs : List ℕ) where
       ∙ ap (λ (k : ℕ). take (k - 1) (bytes_of cs)) (sym (bytes-length cs))
 
 module _ {A : Type 0} (kind : Kind A) (cs : List ℕ) where
-  both-tests : (a b : Bool) (o : Option A) → cond a (cond b o none) none ≡ cond (a && b) o none
+  both-tests : (a b : Bool) (o : Option A) → cond a (cond b o None) None ≡ cond (a && b) o None
   both-tests true b o = refl
   both-tests false b o = refl
 
   -- A line says what its body says where it is framed, and else nothing.
-  pub unframed : is_framed cs ≡ false → from_line kind cs ≡ none
+  pub unframed : is_framed cs ≡ false → from_line kind cs ≡ None
   unframed e =
       both-tests (is_hex cs) (is_checked (bytes_of cs)) (kind.meaning (body_of (bytes_of cs)))
-      ∙ ap (λ (b : Bool). cond b (kind.meaning (body_of (bytes_of cs))) none) e
+      ∙ ap (λ (b : Bool). cond b (kind.meaning (body_of (bytes_of cs))) None) e
 
   pub of-body : is_framed cs ≡ true → from_line kind cs ≡ kind.meaning (body_of (bytes_of cs))
   of-body e =
       both-tests (is_hex cs) (is_checked (bytes_of cs)) (kind.meaning (body_of (bytes_of cs)))
-      ∙ ap (λ (b : Bool). cond b (kind.meaning (body_of (bytes_of cs))) none) e
+      ∙ ap (λ (b : Bool). cond b (kind.meaning (body_of (bytes_of cs))) None) e

@@ -1,6 +1,6 @@
 -- Stores one after the other, as a paste: the line of a body.
 -- Assumes nothing.
-use Prim.Native.Nat.{ℕ, ◌+◌, ◌*◌, ◌/◌, ◌%◌, ◌≤◌}
+use Prim.Native.Nat.{ℕ, ◌+◌, ◌*◌, ◌≤◌}
 use native.Mathlib.Omega.{arith}
 use native.Mathlib.Nat.{zero-add}
 use mathlib.Core.Path.{◌≡◌, refl, sym, ap, subst, ◌∙◌}
@@ -9,7 +9,7 @@ use lib.ListN.{length, take, drop, set}
 use lib.Seq.{take_all, paste}
 use Rattle.seq.specs.Lists.{Stored}
 use Rattle.seq.proofs.Stores.{stored_one, stored-then, stored-part}
-use Rattle.hex_digits.specs.Hex.{digit_of, digits_of, check_byte}
+use Rattle.hex_digits.specs.Hex.{digits_of, check_byte}
 use Rattle.buffer.specs.Buffer.{newline}
 use Rattle.framing.specs.Framing.{whole_of, line_size}
 
@@ -25,26 +25,20 @@ unfolding digits_of
 digits_append [] ys = refl
 digits_append (x ∷ xs) ys = rw (digits_append xs ys)
 
-whole_parts : (body : List ℕ) → digits_of body ++ (digit_of (check_byte body / 16) ∷ digit_of (check_byte body % 16) ∷ newline ∷ []) ≡ whole_of body
-unfolding digits_of
+whole_parts : (body : List ℕ) → digits_of body ++ (digits_of (check_byte body ∷ []) ++ (newline ∷ [])) ≡ whole_of body
 whole_parts body =
     sym
     (ap (λ (l : List ℕ). l ++ (newline ∷ [])) (digits_append body (check_byte body ∷ []))
     ∙ append_assoc (digits_of body) (digits_of (check_byte body ∷ [])) (newline ∷ []))
 
 -- The digits of a body, those of its check byte, and the newline.
-pub line-stored : {bs mid : List ℕ} (body : List ℕ) (check high low : ℕ) → Stored bs 0 (digits_of body) (2 * length body) mid → check ≡ check_byte body
-    → high ≡ digit_of (check / 16) → low ≡ digit_of (check % 16)
-    → Stored bs 0 (whole_of body) (line_size body) (set (set (set mid (2 * length body) high) (2 * length body + 1) low) (2 * length body + 2) newline)
-line-stored {bs} {mid} body check high low p e f g =
+pub line-stored : {bs mid after : List ℕ} (body : List ℕ) (check : ℕ) → Stored bs 0 (digits_of body) (2 * length body) mid → check ≡ check_byte body
+    → Stored mid (2 * length body) (digits_of (check ∷ [])) 2 after → Stored bs 0 (whole_of body) (line_size body) (set after (2 * length body + 2) newline)
+line-stored {bs} {mid} {after} body check p e q =
     let n = 2 * length body in
-    let last =
-    stored-then
-    (stored-then (stored_one (digit_of (check_byte body / 16)) (rw e at f)) (stored_one (digit_of (check_byte body % 16)) (rw e at g)))
-    (stored_one newline refl) in
+    let last = stored-then q (stored_one newline refl) in
     let moved =
-    subst
-    (λ (k : ℕ). Stored mid k (digit_of (check_byte body / 16) ∷ digit_of (check_byte body % 16) ∷ newline ∷ []) 3
-    (set (set (set mid n high) (n + 1) low) (n + 2) newline))
-    (sym (zero-add n)) last in
-    rw (← whole_parts body) (stored-then p moved)
+    subst (λ (k : ℕ). Stored mid k (digits_of (check ∷ []) ++ (newline ∷ [])) 3 (set after (n + 2) newline)) (sym (zero-add n)) last in
+    let whole : digits_of body ++ (digits_of (check ∷ []) ++ (newline ∷ [])) ≡ whole_of body =
+    ap (λ (c : ℕ). digits_of body ++ (digits_of (c ∷ []) ++ (newline ∷ []))) e ∙ whole_parts body in
+    subst (λ (l : List ℕ). Stored bs 0 l (line_size body) (set after (n + 2) newline)) whole (stored-then p moved)

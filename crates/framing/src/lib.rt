@@ -1,33 +1,40 @@
 // A framed line read and written, whatever its bytes mean: hex pairs, a sum of zero, the check byte last.
-// The public functions' `requires` are met by who has tested that there is room.
+// The `requires` of what writes is met by who has tested that there is room.
 #![tactic(auto)]
 
-ghost use Rattle.std.specs.Prelude.{◌≡◌, true, ◌*◌, ◌/◌, ◌≤◌, length, take};
+ghost use Rattle.std.specs.Prelude.{◌≡◌, ◌+◌, ◌*◌, ◌≤◌, [], ◌∷◌, length, cond};
 ghost use Rattle.std.proofs.Math.Seq.{paste};
 ghost use Rattle.seq.specs.Lists.{Stored};
-ghost use Rattle.hex_digits.specs.Hex.{bytes_of, digits_of};
-ghost use Rattle.hex_digits.specs.Frame.{is_framed};
-ghost use Rattle.framing.specs.Framing.{line_size, whole_of};
+ghost use Rattle.hex_digits.specs.Hex.{digits_of};
+ghost use Rattle.framing.specs.Framing.{bytes_framed, line_size, whole_of};
 
 use decoding::decode;
-use hex_digits::{high_digit, low_digit};
-use summing::{check_byte, is_checked, sum8};
+use hex_digits::digit_pair;
+use summing::{check_byte, is_checked};
 
-// Whether characters are a framed line; then its bytes, check byte last, stand at the front of `bytes`.
-pub fn read_framed(digits: &[u8], bytes: &mut [u8]) -> bool
-    requires { length digits.now ≤ 2 * length bytes.old }
-    ensures framed { result ≡ is_framed digits.now }
-    ensures bytes { let characters = digits.now in
-        (result ≡ true → take (length characters / 2) bytes.new ≡ bytes_of characters) }
+/// The `N` bytes of a framed line, check byte last; nothing where the characters are no framed line of that length.
+pub fn read_framed<const N: usize>(digits: &[u8]) -> Option<[u8; N]>
+    ensures { result ≡ bytes_framed N digits.now }
 {
-    if digits.len() % 2 != 0 {
-        return false;
+    if digits.len() % 2 != 0 || digits.len() / 2 != N {
+        return None;
     }
-    if !decode(digits, bytes) {
-        return false;
+    let bytes = decode::<N>(digits)?;
+    if is_checked(&bytes) {
+        Some(bytes)
+    } else {
+        None
     }
-    let n = digits.len() / 2;
-    is_checked(&bytes[..n])
+}
+
+// The two digits of a byte, from a place on.
+fn write_byte(target: &mut [u8], at: usize, byte: u8)
+    requires { at + 2 ≤ length target.old }
+    ensures { Stored target.old at (digits_of (byte ∷ [])) 2 target.new }
+{
+    let [high, low] = digit_pair(byte);
+    target[at] = high;
+    target[at + 1] = low;
 }
 
 // The digits of bytes, one behind the other.
@@ -36,26 +43,20 @@ fn write_digits(target: &mut [u8], bytes: &[u8])
     ensures { let all = bytes.now in
         Stored target.old 0 (digits_of all) (2 * length all) target.new }
 {
-    let mut i = 0;
-    while i < bytes.len() {
-        let byte = bytes[i];
-        target[2 * i] = high_digit(byte);
-        target[2 * i + 1] = low_digit(byte);
-        i += 1;
+    for (i, &byte) in bytes.iter().enumerate() {
+        write_byte(target, 2 * i, byte);
     }
 }
 
-// Writes the line of a body, newline last, at the front of a buffer, and gives the line's length.
+/// Writes the line of a body, newline last, at the front of a buffer, and gives the line's length.
 pub fn write_framed(target: &mut [u8], body: &[u8]) -> usize
     requires { line_size body.now ≤ length target.old }
     ensures { let b = body.now in
         (result ≡ line_size b) × (target.new ≡ paste target.old 0 (whole_of b) (line_size b)) }
 {
     let n = 2 * body.len();
-    let check = check_byte(sum8(body));
     write_digits(target, body);
-    target[n] = high_digit(check);
-    target[n + 1] = low_digit(check);
+    write_byte(target, n, check_byte(body));
     target[n + 2] = b'\n';
     n + 3
 }

@@ -1,11 +1,11 @@
 -- A line is its body, in hex and with its check byte, and so a kind of line is as faithful as its bodies.
 -- Assumes nothing.
+use Rattle.std.specs.Prelude.{Option, Some, None}
 use Prim.Native.Nat.{ℕ, zero, suc, ◌-◌, ◌%◌, ◌<◌}
 use native.Mathlib.Omega.{arith}
 use mathlib.Core.Path.{◌≡◌, refl, sym, ap, ◌∙◌}
 use mathlib.Core.Bool.{Bool, true, false, cond}
 use mathlib.Core.List.{List, [], ◌∷◌, ◌++◌}
-use mathlib.Core.Option.{Option, none, some}
 use lib.Dec.{ltb, eqb}
 use lib.ListN.{length, take, drop, length-append, drop_of_length-le, take-append-drop}
 use lib.Seq.{take_at, drop-cons}
@@ -81,17 +81,17 @@ framed-bytes b h = digits-back (with_check b) (check-bytes b h)
 -- ---- the three properties
 
 module _ {A : Type 0} (kind : Kind A) (Fits : A → Type 0) (lawful : Lawful kind Fits) where
-  back : (a : A) → Fits a → from_line kind (line_of kind a) ≡ some a
+  back : (a : A) → Fits a → from_line kind (line_of kind a) ≡ Some a
   back a f =
       let b = kind.body a in
       let h = lawful.bytes a f in
       rw (framed-hex b h, framed-bytes b h, checked b, body_back b) (lawful.reads a f)
 
-  found : {B : Type 0} (b : Bool) (o : Option B) (a : B) → cond b o none ≡ some a → (b ≡ true) × (o ≡ some a)
+  found : {B : Type 0} (b : Bool) (o : Option B) (a : B) → cond b o None ≡ Some a → (b ≡ true) × (o ≡ Some a)
   found true o a e = (refl, e)
   found false o a e = absurd (let z : ◌≡◌ {A = ℕ} 0 1 = cc in omega arith)
 
-  one : (cs : List ℕ) (a : A) → from_line kind cs ≡ some a → cs ≡ line_of kind a
+  one : (cs : List ℕ) (a : A) → from_line kind cs ≡ Some a → cs ≡ line_of kind a
   one cs a e =
       let p = found (is_hex cs) (from_bytes kind (bytes_of cs)) a e in
       let q = found (is_checked (bytes_of cs)) (kind.meaning (body_of (bytes_of cs))) a p.1 in
@@ -103,7 +103,7 @@ module _ {A : Type 0} (kind : Kind A) (Fits : A → Type 0) (lawful : Lawful kin
       ∙ ap framed (lawful.one (body_of (bytes_of cs)) a (body_bytes (bytes_of cs) h) q.1)
 
   differ : (a b : A) → Fits a → Fits b → line_of kind a ≡ line_of kind b → a ≡ b
-  differ a b f g e = let p : some a ≡ some b = sym (back a f) ∙ ap (from_line kind) e ∙ back b g in cc
+  differ a b f g e = let p : Some a ≡ Some b = sym (back a f) ∙ ap (from_line kind) e ∙ back b g in cc
 
 pub lines-faithful : LinesFaithful
 lines-faithful A kind Fits lawful = record { reads_back = back kind Fits lawful; one_line = one kind Fits lawful; lines_differ = differ kind Fits lawful }

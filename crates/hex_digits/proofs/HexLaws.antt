@@ -12,7 +12,7 @@ use lib.ListN.{length, get_or, drop}
 use lib.Seq.{drop-cons, length-take-le}
 use borrow.Author.Tests.{leb-true, le-leb, lt-leb, ltb-true, ltb-false, lt-ltb, le-ltb}
 use Rattle.seq.specs.Lists.{all_of}
-use Rattle.hex_digits.specs.Hex.{is_digit, digit_value, digit_of, bytes_of, digits_of, sum8, check_byte}
+use Rattle.hex_digits.specs.Hex.{is_digit, digit_value, char_value, digit_of, bytes_of, digits_of, sum8, check_byte}
 use Rattle.hex_digits.specs.Frame.{AreBytes, body_of}
 
 -- Two tests joined.
@@ -161,3 +161,15 @@ body-length bs = length-take-le (length bs - 1) bs (omega arith)
 pub not-second : (a b : Bool) → b ≡ false → (a && b) ≡ false
 not-second true b e = e
 not-second false b e = refl
+
+-- The value of a digit, as the table has it.
+pub char-digit : (c : ℕ) → is_digit c ≡ true → char_value c ≡ digit_value c
+char-digit c e = rw e
+
+-- What is below 16 in the table is a digit.
+pub digit-test : (c : ℕ) → ltb (char_value c) 16 ≡ is_digit c
+digit-test c = by (is_digit c) refl
+  where
+    by : (b : Bool) → is_digit c ≡ b → ltb (char_value c) 16 ≡ b
+    by true e = rw e (lt-ltb (digit_value c) 16 (digit-fits c e))
+    by false e = rw e

@@ -27,6 +27,17 @@ pub pair-hex : (cs : List ℕ) (i : ℕ) → 2 * i + 1 < length cs
 unfolding all_of
 pair-hex cs i h = ap (all_of is_digit) (drop-pair cs i h)
 
+and-pass : (a b c : Bool) → a ≡ true → b ≡ true → (a && (b && c)) ≡ c
+and-pass true true c e f = refl
+and-pass true false c e f = absurd (let z : ◌≡◌ {A = ℕ} 0 1 = cc in omega arith)
+and-pass false b c e f = absurd (let z : ◌≡◌ {A = ℕ} 0 1 = cc in omega arith)
+
+-- A pair of digits, and the characters behind it.
+pub digits-pass : (cs : List ℕ) (i : ℕ) → 2 * i + 1 < length cs → is_digit (get_or cs (2 * i) 0) ≡ true → is_digit (get_or cs (2 * i + 1) 0) ≡ true
+    → all_of is_digit (drop (2 * (i + 1)) cs) ≡ all_of is_digit (drop (2 * i) cs)
+digits-pass cs i h e f =
+    sym (pair-hex cs i h ∙ and-pass (is_digit (get_or cs (2 * i) 0)) (is_digit (get_or cs (2 * i + 1) 0)) (all_of is_digit (drop (2 * (i + 1)) cs)) e f)
+
 not-both : (h l rest : Bool) → (h && l) ≡ false → (h && (l && rest)) ≡ false
 not-both false l rest e = refl
 not-both true l rest e = simp e

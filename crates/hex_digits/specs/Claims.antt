@@ -1,25 +1,24 @@
 -- What holds of every kind of line whose bodies and records stand for each other: what is written is read back, a record has one line
 -- among all lines, and two records never share one. Calls and answers are such kinds.
 -- Assumes nothing.
-use Rattle.std.specs.Prelude.{ℕ, ◌≡◌, List}
-use Rattle.std.proofs.Math.Option.{some}
+use Rattle.std.specs.Prelude.{ℕ, ◌≡◌, List, Some}
 use Rattle.hex_digits.specs.Frame.{AreBytes, Kind, from_line, line_of}
 
 module _ {A : Type 0} where
   -- The bodies of a kind, and the records that fit its fields, stand for each other.
   pub record Lawful (kind : Kind A) (Fits : A → Type 0) : Type 0 where
     pub bytes : (a : A) → Fits a → AreBytes (kind.body a)
-    pub reads : (a : A) → Fits a → kind.meaning (kind.body a) ≡ some a
-    pub one : (b : List ℕ) (a : A) → AreBytes b → kind.meaning b ≡ some a → b ≡ kind.body a
-    pub fits : (b : List ℕ) (a : A) → AreBytes b → kind.meaning b ≡ some a → Fits a
+    pub reads : (a : A) → Fits a → kind.meaning (kind.body a) ≡ Some a
+    pub one : (b : List ℕ) (a : A) → AreBytes b → kind.meaning b ≡ Some a → b ≡ kind.body a
+    pub fits : (b : List ℕ) (a : A) → AreBytes b → kind.meaning b ≡ Some a → Fits a
 
   -- Reading a written line gives its record.
   abbrev pub ReadsBack : Kind A → (A → Type 0) → Type 0
-  ReadsBack kind Fits = (a : A) → Fits a → from_line kind (line_of kind a) ≡ some a
+  ReadsBack kind Fits = (a : A) → Fits a → from_line kind (line_of kind a) ≡ Some a
 
   -- A line that reads as a record is the line that is written of it.
   abbrev pub OneLine : Kind A → Type 0
-  OneLine kind = (cs : List ℕ) (a : A) → from_line kind cs ≡ some a → cs ≡ line_of kind a
+  OneLine kind = (cs : List ℕ) (a : A) → from_line kind cs ≡ Some a → cs ≡ line_of kind a
 
   -- Two different records never share a line.
   abbrev pub LinesDiffer : Kind A → (A → Type 0) → Type 0

@@ -1,8 +1,7 @@
 -- What a line is, whatever it means: bytes in lower-case hex, the last of them a check byte that brings their sum to 0 modulo 256.
 -- The bytes before the check byte are the line's body.
 -- Assumes nothing.
-use Rattle.std.specs.Prelude.{ℕ, ◌-◌, ◌<◌, Bool, cond, ◌&&◌, List, [], ◌∷◌, ◌++◌, ltb, eqb, length, take}
-use Rattle.std.proofs.Math.Option.{Option, none}
+use Rattle.std.specs.Prelude.{ℕ, ◌-◌, ◌<◌, Bool, cond, ◌&&◌, List, [], ◌∷◌, ◌++◌, ltb, eqb, length, take, Option, None}
 use Rattle.hex_digits.specs.Hex.{is_hex, bytes_of, digits_of, sum8, check_byte, word}
 pub use Rattle.def.specs.Word.{byte_at}
 
@@ -40,10 +39,10 @@ pub record Kind (A : Type 0) : Type 0 where
 module _ {A : Type 0} where
   -- The record of a line's bytes, and of its characters.
   abbrev pub from_bytes : Kind A → List ℕ → Option A
-  from_bytes kind bs = cond (is_checked bs) (kind.meaning (body_of bs)) none
+  from_bytes kind bs = cond (is_checked bs) (kind.meaning (body_of bs)) None
 
   abbrev pub from_line : Kind A → List ℕ → Option A
-  from_line kind cs = cond (is_hex cs) (from_bytes kind (bytes_of cs)) none
+  from_line kind cs = cond (is_hex cs) (from_bytes kind (bytes_of cs)) None
 
   -- The line of a record.
   abbrev pub line_of : Kind A → A → List ℕ

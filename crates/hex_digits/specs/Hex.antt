@@ -1,7 +1,7 @@
 -- Hex digits: a line is written in pairs of them, a byte a pair.
 -- Assumes nothing.
 use Rattle.std.specs.Prelude.{ℕ, ◌+◌, ◌-◌, ◌*◌, ◌/◌, ◌%◌, Bool, cond, ◌&&◌, ◌||◌, List, [], ◌∷◌, leb, ltb, eqb, length}
-use Rattle.seq.specs.Lists.{all_of, entries}
+use Rattle.seq.specs.Lists.{all_of}
 pub use Rattle.def.specs.Word.{word, word_bytes}
 
 -- 0 to 9 and a to f, as characters: lower case only.
@@ -37,20 +37,9 @@ sum8 (b ∷ bs) = (b + sum8 bs) % 256
 abbrev pub check_byte : List ℕ → ℕ
 check_byte bs = (256 - sum8 bs) % 256
 
--- The table that readers and writers are lent: the value of each character, 255 where it is no digit, then the two digits of each byte,
--- the high one in the low half.
+-- The value of a character as readers have it: 255 where it is no digit.
 abbrev pub no_digit : ℕ
 no_digit = 255
 
 abbrev pub char_value : ℕ → ℕ
 char_value c = cond (is_digit c) (digit_value c) no_digit
-
-abbrev pub digit_pair : ℕ → ℕ
-digit_pair b = digit_of (b / 16) + 256 * digit_of (b % 16)
-
-abbrev pub table_entry : ℕ → ℕ
-table_entry i = cond (ltb i 256) (char_value i) (digit_pair (i - 256))
-
-unfoldable pub digit_tables : List ℕ
-unfolding entries
-digit_tables = entries table_entry 512

@@ -1,60 +1,39 @@
-// Hex digits and numbers of four bytes: what call lines and answer lines are made of. specs/ says what a line is, its sum and its check byte
-// among it. Whatever reads or writes a line rests on this.
+// Hex digits by table: what call lines and answer lines are made of. specs/ says what a line is, its sum and its check byte among it.
+// Whatever reads or writes a line rests on this.
 
 #![tactic(auto)]
 
-ghost use Rattle.std.specs.Prelude.{◌≡◌, true, ◌+◌, ◌*◌, ◌/◌, ◌%◌, ◌<◌};
-ghost use Rattle.hex_digits.specs.Hex.{is_digit, digit_value, digit_of, word};
+mod table;
 
-pub fn is_digit(c: u8) -> bool
-    ensures { result ≡ is_digit c }
+ghost use Rattle.std.specs.Prelude.{◌≡◌, ◌<◌, [], ◌∷◌, slice_index};
+ghost use Rattle.hex_digits.specs.Hex.{char_value, digits_of};
+
+use table::{DIGITS, VALUES};
+
+fn value_entry(c: u8) -> u8
+    ensures { result ≡ slice_index VALUES c }
 {
-    ((b'0' <= c) & (c <= b'9')) | ((b'a' <= c) & (c <= b'f'))
+    VALUES[c as usize]
 }
 
-// The value of a digit. The low half of a letter counts from 1, and its bit 6 is set: no branch, since digits are hard to foretell.
-pub fn digit_value(c: u8) -> u8
-    requires { is_digit c ≡ true }
-    ensures { result ≡ digit_value c }
+/// The value of a character, 255 where it is no digit. By table, since reading with tests takes twice as long.
+pub fn char_value(c: u8) -> u8
+    ensures { result ≡ char_value c }
 {
-    c % 16 + 9 * (c / 64)
+    value_entry(c)
 }
 
-// The byte of a pair of digits.
-pub fn pair_value(high: u8, low: u8) -> u8
-    requires { (is_digit high ≡ true) × (is_digit low ≡ true) }
-    ensures { result ≡ 16 * digit_value high + digit_value low }
+fn digit_entry(i: usize) -> u8
+    requires { i < 512 }
+    ensures { result ≡ slice_index DIGITS i }
 {
-    16 * digit_value(high) + digit_value(low)
+    DIGITS[i]
 }
 
-// Four bytes, the highest first.
-pub fn word(a: u8, b: u8, c: u8, d: u8) -> u32
-    ensures { result ≡ word a b c d }
+/// The two digits of a byte, the high one first. By table, since writing with tests takes twice as long.
+pub fn digit_pair(byte: u8) -> [u8; 2]
+    ensures { result ≡ digits_of (byte ∷ []) }
 {
-    ((a as u32 * 256 + b as u32) * 256 + c as u32) * 256 + d as u32
-}
-
-// The lower-case hex digit of a value.
-fn digit_of(n: u8) -> u8
-    requires { n < 16 }
-    ensures { result ≡ digit_of n }
-{
-    if n < 10 {
-        return 48 + n;
-    }
-    87 + n
-}
-
-// The two digits of a byte.
-pub fn high_digit(b: u8) -> u8
-    ensures { result ≡ digit_of (b / 16) }
-{
-    digit_of(b / 16)
-}
-
-pub fn low_digit(b: u8) -> u8
-    ensures { result ≡ digit_of (b % 16) }
-{
-    digit_of(b % 16)
+    let place = 2 * byte as usize;
+    [digit_entry(place), digit_entry(place + 1)]
 }

@@ -1,6 +1,6 @@
 -- The numbers that a run's derivations give are those of the clip's rule, as 32-bit words; words of numbers that fit differ where the numbers do.
 -- Assumes nothing.
-use Rattle.std.specs.Prelude.{Result, Ok, Err}
+use Rattle.std.specs.Prelude.{Result, Ok, Err, Option, Some, None}
 use Prim.Native.Nat.{ℕ, suc, ◌+◌, ◌-◌, ◌^◌, ◌≤◌, ◌<◌}
 use mathlib.Core.Path.{◌≡◌, refl, sym, ap, ◌∙◌, subst}
 use mathlib.Core.Bool.{Bool, true, false, cond, ◌||◌}
@@ -27,7 +27,7 @@ use Rattle.poc.specs.Distance.{run, accepted_steps, number_of}
 use Rattle.poc.specs.Clip.{Clip}
 use Rattle.poc.proofs.Differences.{pos_inj}
 use Rattle.poc.proofs.Clip.{clip-above, clip-rule}
-use Rattle.line.specs.declared.{Call.Call, Line.Line}
+use Rattle.line.specs.declared.Call.{Call}
 use Rattle.machine.specs.declared.Machine.{Machine}
 use Rattle.machine.specs.Step.{new_machine, derived_reply, step, step_line}
 use Rattle.history.specs.Pictures.{is_done}
@@ -40,16 +40,16 @@ use Rattle.history.proofs.Files.{files-differ}
 abbrev word_of : poc.Step → ℕ
 word_of s = twos_complement (number_of s)
 
-derived-shown : (m : Machine) (ls : List Line) → derived_numbers (turns m ls) ≡ map word_of (accepted_steps m.poc (derivations ls))
+derived-shown : (m : Machine) (ls : List (Option Call)) → derived_numbers (turns m ls) ≡ map word_of (accepted_steps m.poc (derivations ls))
 unfolding turns flat_map step_line step accepted_steps run select
 derived-shown m [] = refl
-derived-shown m (Line.Bad ∷ ls) = derived-shown m ls
-derived-shown m (Line.Good (Call.Init size refs) ∷ ls) = derived-shown (step m (Call.Init size refs)).machine ls
-derived-shown m (Line.Good Call.GetEmptyPic ∷ ls) = derived-shown (step m Call.GetEmptyPic).machine ls
-derived-shown m (Line.Good (Call.PutPic flags poc tid gap) ∷ ls) = derived-shown (step m (Call.PutPic flags poc tid gap)).machine ls
-derived-shown m (Line.Good Call.OutPic ∷ ls) = derived-shown (step m Call.OutPic).machine ls
-derived-shown m (Line.Good (Call.RefpInit slice poc layer intra limit) ∷ ls) = derived-shown (step m (Call.RefpInit slice poc layer intra limit)).machine ls
-derived-shown m (Line.Good (Call.PocDerivation L t) ∷ ls) =
+derived-shown m (None ∷ ls) = derived-shown m ls
+derived-shown m (Some (Call.Init size refs) ∷ ls) = derived-shown (step m (Call.Init size refs)).machine ls
+derived-shown m (Some Call.GetEmptyPic ∷ ls) = derived-shown (step m Call.GetEmptyPic).machine ls
+derived-shown m (Some (Call.PutPic flags poc tid gap) ∷ ls) = derived-shown (step m (Call.PutPic flags poc tid gap)).machine ls
+derived-shown m (Some Call.OutPic ∷ ls) = derived-shown (step m Call.OutPic).machine ls
+derived-shown m (Some (Call.RefpInit slice poc layer intra limit) ∷ ls) = derived-shown (step m (Call.RefpInit slice poc layer intra limit)).machine ls
+derived-shown m (Some (Call.PocDerivation L t) ∷ ls) =
     pick (derive L t m.poc).answer (derived-shown (step m (Call.PocDerivation L t)).machine ls)
   where
     d : Derivation
@@ -143,7 +143,7 @@ derived-differ lines clip =
     (distinct-by number_of word_of (accepted_steps r cs) (λ a b m n e. sym (same_word r cs m) ∙ ap signed_of e ∙ same_word r cs n) (clip-rule r cs clip))
 
 -- the numbers of a clip lie above the record's previous number, so none is 0
-zero-not-derived : (lines : List Line) → Clip new_machine.poc (derivations lines) → Memᴰ 0 (derived_numbers (turns new_machine lines)) → ⊥
+zero-not-derived : (lines : List (Option Call)) → Clip new_machine.poc (derivations lines) → Memᴰ 0 (derived_numbers (turns new_machine lines)) → ⊥
 zero-not-derived lines clip m =
     let r = new_machine.poc in
     let cs = derivations lines in

@@ -1,5 +1,6 @@
 -- The claims on whole runs: line by line, what is put and wanted goes to the slots that wait, and what is handed over comes from them.
 -- Assumes nothing.
+use Rattle.std.specs.Prelude.{Option, Some, None}
 use Prim.Native.Nat.{ℕ, ◌+◌}
 use mathlib.Core.Path.{◌≡◌, refl, ap}
 use mathlib.Core.Bool.{Bool, true, false, not, ◌&&◌}
@@ -13,7 +14,7 @@ use Rattle.seq.proofs.Tests.{count-append, count-one}
 use Rattle.seq.proofs.Distinct.{count-select-map, fewer-distinct}
 use Rattle.def.specs.declared.{Slot.Slot, EvcPm.EvcPm, Answer.Answer}
 use Rattle.def.specs.State.{is_wanted, is_idle, handed_over}
-use Rattle.line.specs.declared.{Call.Call, Line.Line, Reply.Reply}
+use Rattle.line.specs.declared.{Call.Call, Reply.Reply}
 use Rattle.line.specs.{Calls.read_line, Answers.answer_line, Answers.reply_of}
 use Rattle.machine.specs.declared.Machine.{Machine}
 use Rattle.machine.specs.Step.{new_machine, flag, put_call_of, refp_call_of, step, step_line}
@@ -72,20 +73,20 @@ module _ (n : ℕ) where
   none = refl
 
   -- What a line with this reply does: what was put goes to those that wait, and what was handed over comes from them.
-  abbrev Flows : List Slot → List Slot → Line → Reply → Type 0
+  abbrev Flows : List Slot → List Slot → Option Call → Reply → Type 0
   Flows xs ys l r = count_if (eqb n) (put_number l r) + count_if waits xs ≡ count_if (eqb n) (out_number l r) + count_if waits ys
 
-  init-flows : (size refs : ℕ) {pm q : EvcPm} {a : Answer} → InitActs pm a q → Flows pm.pic q.pic (Line.Good (Call.Init size refs)) (reply_of 1 a)
+  init-flows : (size refs : ℕ) {pm q : EvcPm} {a : Answer} → InitActs pm a q → Flows pm.pic q.pic (Some (Call.Init size refs)) (reply_of 1 a)
   init-flows size refs (acts.turned_down why) = refl
   init-flows size refs (acts.dropped l s) = rw s
 
-  get-flows : {pm q : EvcPm} {a : Answer} → GetActs pm a q → Flows pm.pic q.pic (Line.Good Call.GetEmptyPic) (reply_of 2 a)
+  get-flows : {pm q : EvcPm} {a : Answer} → GetActs pm a q → Flows pm.pic q.pic (Some Call.GetEmptyPic) (reply_of 2 a)
   get-flows (acts.turned_down why) = refl
   get-flows (acts.took-idle s idle mem free l swap) = omega (arith, swap waits blind, idle-not s idle)
   get-flows (acts.made-new b new free l s) = rw s
 
   put-flows : (m : Machine) (flags poc tid gap : ℕ) {q : EvcPm} {a : Answer} → PutActs m.pm m.refp (put_call_of flags poc tid gap) a q
-      → Flows m.pm.pic q.pic (Line.Good (Call.PutPic flags poc tid gap)) (reply_of 3 a)
+      → Flows m.pm.pic q.pic (Some (Call.PutPic flags poc tid gap)) (reply_of 3 a)
   put-flows m flags poc tid gap (acts.turned_down why) = rw (refused-status why) refl
   put-flows m flags poc tid gap (acts.marked-only bare l same) = rw bare (omega (arith, same waits blind))
   put-flows m flags poc tid gap (acts.stored old new some leased l gone here is wanted swap) =
@@ -94,12 +95,12 @@ module _ (n : ℕ) where
       now : bool_byte (waits new) ≡ bool_byte (flag flags 2 && eqb n poc)
       now = rw (here, wanted, ap (λ (x : Content). x.poc) is)
 
-  out-flows : {pm q : EvcPm} {a : Answer} → OutActs pm a q → Flows pm.pic q.pic (Line.Good Call.OutPic) (reply_of 4 a)
+  out-flows : {pm q : EvcPm} {a : Answer} → OutActs pm a q → Flows pm.pic q.pic (Some Call.OutPic) (reply_of 4 a)
   out-flows (acts.handed-none t) = rw t
   out-flows (acts.handed s wanted l swap) =
       omega (arith, none, if-so true s.pic.poc, handed-not s, ap bool_byte (wanted-waits s wanted), swap waits blind)
 
-  call-flows : (m : Machine) (c : Call) → Sound m → Flows m.pm.pic (step m c).machine.pm.pic (Line.Good c) (step m c).reply
+  call-flows : (m : Machine) (c : Call) → Sound m → Flows m.pm.pic (step m c).machine.pm.pic (Some c) (step m c).reply
   unfolding step
   call-flows m (Call.Init size refs) s = init-flows size refs (init-acts m.pm size refs)
   call-flows m Call.GetEmptyPic s = get-flows (get-acts m.pm s.all_slots)
@@ -108,14 +109,14 @@ module _ (n : ℕ) where
   call-flows m (Call.RefpInit slice poc layer intra limit) s = rw (lists-acts m.pm m.refp (refp_call_of slice poc layer intra limit)).slots-stay
   call-flows m (Call.PocDerivation L t) s = refl
 
-  line-flows : (m : Machine) (l : Line) → Sound m → Flows m.pm.pic (step_line m l).machine.pm.pic l (step_line m l).reply
+  line-flows : (m : Machine) (l : Option Call) → Sound m → Flows m.pm.pic (step_line m l).machine.pm.pic l (step_line m l).reply
   unfolding step_line
-  line-flows m (Line.Good c) s = call-flows m c s
-  line-flows m Line.Bad s = refl
+  line-flows m (Some c) s = call-flows m c s
+  line-flows m None s = refl
 
   -- ---- line after line
 
-  run-flows : (m : Machine) (ls : List Line) → Sound m
+  run-flows : (m : Machine) (ls : List (Option Call)) → Sound m
       → count_if (eqb n) (put_numbers (turns m ls)) + count_if waits m.pm.pic
       ≡ count_if (eqb n) (out_numbers (turns m ls)) + count_if waits (leaves m ls).pm.pic
   unfolding turns leaves flat_map

@@ -1,7 +1,7 @@
 -- What the program prints is read back, since every reply of a run from the new machine fits its line: the buffers and numbers that a whole
 -- state holds do, and so do its counts and a derived number.
 -- Assumes nothing.
-use Rattle.std.specs.Prelude.{Result, Ok, Err}
+use Rattle.std.specs.Prelude.{Result, Ok, Err, Option, Some, None}
 use Prim.Native.Nat.{ℕ, ◌^◌, ◌≤◌, ◌<◌}
 use mathlib.Core.Path.{◌≡◌, refl, ap, ◌∙◌, subst}
 use mathlib.Core.Bool.{true, not, ◌&&◌}
@@ -35,7 +35,7 @@ use Rattle.picman.proofs.Keeps.{remarked-lease}
 use Rattle.picman.proofs.OutCases.{due_slot, due_in, due-present}
 use Rattle.picman.proofs.OutLaws as out-laws
 use Rattle.picman.proofs.InitLaws as init-laws
-use Rattle.line.specs.declared.{Call.Call, Line.Line}
+use Rattle.line.specs.declared.Call.{Call}
 use Rattle.line.specs.{Calls.read_line, Answers.answer_line, Answers.reply_of, Claims.ReplyFits, Lines.lines_from}
 use Rattle.reader.specs.Reading.{reads_from}
 use Rattle.reader.specs.Claims.{AllFit}
@@ -159,12 +159,12 @@ call_fits m (Call.PocDerivation L t) s =
     let c : poc.Call = record { log2 = L; layer = t } in
     number_fits c m.poc (derive L t m.poc).answer (derived-fits c m.poc)
 
-line-fits : (m : Machine) (l : Line) → Sound m → ReplyFits (step_line m l).reply
+line-fits : (m : Machine) (l : Option Call) → Sound m → ReplyFits (step_line m l).reply
 unfolding step_line
-line-fits m (Line.Good c) s = call_fits m c s
-line-fits m Line.Bad s = record { call = omega arith; status = omega arith; buf = omega arith; value = omega arith }
+line-fits m (Some c) s = call_fits m c s
+line-fits m None s = record { call = omega arith; status = omega arith; buf = omega arith; value = omega arith }
 
-run_fits : (m : Machine) (ls : List Line) → Sound m → AllFit (replies (turns m ls))
+run_fits : (m : Machine) (ls : List (Option Call)) → Sound m → AllFit (replies (turns m ls))
 unfolding AllFit turns
 run_fits m [] s = tt
 run_fits m (l ∷ ls) s = (line-fits m l s, run_fits (step_line m l).machine ls (line-sound m l s))

@@ -1,5 +1,6 @@
 -- A function that turns its call down leaves the image as it was: of the definitions, and so of what stands in the image.
 -- Assumes nothing.
+use Rattle.std.specs.Prelude.{Option, Some, None}
 use mathlib.Core.Path.{◌≡◌, refl, ap, subst, ◌∙◌}
 use mathlib.Core.Bool.{Bool, true, false, cond, ◌&&◌}
 use mathlib.Core.List.{List}
@@ -9,9 +10,8 @@ use lib.Dec.{eqb}
 use lib.ListN.{length}
 use Rattle.def.specs.Refusals.{NumberInUse}
 use Rattle.seq.proofs.Tests.{and_left}
+use Rattle.line.specs.declared.Call.{Call}
 use Rattle.line.specs.Calls.{call_from}
-use Rattle.line.specs.declared.Line.{Line}
-use Rattle.line.specs.declared.Line.TheVariants.{Good, Bad}
 use Rattle.image.specs.Image.{image_length, Bytes, is_image}
 use Rattle.image.proofs.BytesKept.{bytes-kept}
 use Rattle.machine.specs.Step.{new_machine}
@@ -34,9 +34,9 @@ new-kept image t = go (eqb (length image) image_length) t
     go false u = refl
 
 module _ (image : List ℕ) (bytes : Bytes image) where
-  line_kept : is_image image ≡ true → (l : Line) → NumberInUse (answer_to image l).given → (answer_to image l).image ≡ image
-  line_kept e (Good c) t = ap machine_bytes (call-unchanged (machine_of image) c t) ∙ bytes-kept image bytes e
-  line_kept e Bad t = refl
+  line_kept : is_image image ≡ true → (l : Option Call) → NumberInUse (answer_to image l).given → (answer_to image l).image ≡ image
+  line_kept e (Some c) t = ap machine_bytes (call-unchanged (machine_of image) c t) ∙ bytes-kept image bytes e
+  line_kept e None t = refl
 
   pub call_kept : (call answer : List ℕ) → NumberInUse (called image call answer).given → (called image call answer).image ≡ image
   unfolding called

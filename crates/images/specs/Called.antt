@@ -1,9 +1,8 @@
 -- `renew_image` and `call_image`: what they give, and the buffers as they leave them.
 -- Assumes nothing.
-use Rattle.std.specs.Prelude.{ℕ, ◌≡◌, true, cond, ◌&&◌, List, eqb, length}
+use Rattle.std.specs.Prelude.{ℕ, ◌≡◌, true, cond, ◌&&◌, List, eqb, length, Option, Some, None}
 use Rattle.def.specs.Refusals.{NumberInUse}
-use Rattle.line.specs.declared.Line.{Line}
-use Rattle.line.specs.declared.Line.TheVariants.{Good, Bad}
+use Rattle.line.specs.declared.Call.{Call}
 use Rattle.line.specs.Calls.{call_from}
 use Rattle.line.specs.Answers.{bad_line_reply}
 use Rattle.image.specs.Image.{image_length, image_bytes, pm_of, refp_of, poc_of, is_image}
@@ -36,9 +35,9 @@ answered n image answer = record { given = n; image = image; answer = answer }
 abbrev pub replied : Stepped → Answered
 replied s = answered s.reply.status (machine_bytes s.machine) (answer_bytes s.reply)
 
-abbrev pub answer_to : List ℕ → Line → Answered
-answer_to image (Good c) = replied (step (machine_of image) c)
-answer_to image Bad = answered bad_line image (answer_bytes bad_line_reply)
+abbrev pub answer_to : List ℕ → Option Call → Answered
+answer_to image (Some c) = replied (step (machine_of image) c)
+answer_to image None = answered bad_line image (answer_bytes bad_line_reply)
 
 -- `call_image`: 18, and nothing is written, unless image and answer buffer are what they must be.
 unfoldable pub called : List ℕ → List ℕ → List ℕ → Answered

@@ -17,7 +17,7 @@ use def::Refusal;
 use exchange::{read_machine, write_machine};
 use image::is_image;
 use image::places::IMAGE_LENGTH;
-use line::{BAD_LINE, Call, Line, bad_line_reply};
+use line::{BAD_LINE, Call, bad_line_reply};
 use machine::fresh::new_machine;
 use parsing::read_call;
 use stepping::step;
@@ -69,7 +69,7 @@ pub fn call_image(image: &mut [u8], call: &[u8], answer: &mut [u8]) -> u8
         return BAD_LINE;
     }
     match read_call(call) {
-        Line::Good(good) => answer_good(image, good, answer),
-        Line::Bad => answer_bad(answer),
+        Some(good) => answer_good(image, good, answer),
+        None => answer_bad(answer),
     }
 }

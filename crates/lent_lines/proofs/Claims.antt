@@ -1,5 +1,6 @@
 -- The claims about the library's functions on lines, proved.
 -- Assumes nothing.
+use Rattle.std.specs.Prelude.{Option, Some, None, Result, Ok, Err}
 use Prim.Native.Nat.{ℕ, ◌+◌, ◌*◌, ◌/◌, ◌%◌, ◌^◌, ◌<◌, ◌≤◌}
 use native.Mathlib.Omega.{arith}
 use mathlib.Core.Path.{◌≡◌, refl, sym, ap, ◌∙◌}
@@ -11,11 +12,12 @@ use native.Mathlib.Nat.{div-div-eq-div-mul}
 use borrow.Author.Tests.{ltb-true, eq-eqb}
 use Rattle.seq.proofs.Walks.{lowest-le}
 use Rattle.buffer.specs.Buffer.{is_newline, line_end}
+use Rattle.def.specs.declared.Refusal.{Refusal}
 use Rattle.def.specs.Word.{word}
 use Rattle.def.proofs.WordLaws.{word-of-bytes}
-use Rattle.reader.specs.declared.Read.{Read}
+use Rattle.line.specs.declared.Reply.{Reply}
+use Rattle.reader.specs.declared.BadLine.{BadLine}
 use Rattle.reader.specs.Reading.{answer_at, after_line}
-use Rattle.writer.specs.declared.Written.{Written}
 use Rattle.writer.specs.Writing.{written}
 use Rattle.writer.proofs.Claims.{refused-unwritten}
 use Rattle.lent_lines.specs.LentLines.{record_of, record_length, read_out, written_status, written_length, wrote_out}
@@ -56,17 +58,17 @@ lower n =
     ap (λ (k : ℕ). word (k / 16777216 % 256) (k / 65536 % 256) (k / 256 % 256) (k % 256)) (sym parts)
     ∙ below (n / 4294967296) (n % 4294967296) (omega arith)
 
-shown : (r : Read) (next : ℕ) → next < 2 ^ 64 → place_in (record_of r next) ≡ next
+shown : (r : Option (Result Reply BadLine)) (next : ℕ) → next < 2 ^ 64 → place_in (record_of r next) ≡ next
 shown r next h = by r
   where
     place : word (next / 72057594037927936 % 256) (next / 281474976710656 % 256) (next / 1099511627776 % 256) (next / 4294967296 % 256) * 4294967296
         + word (next / 16777216 % 256) (next / 65536 % 256) (next / 256 % 256) (next % 256) ≡ next
     place = rw (upper next h, lower next) (high-low next h)
 
-    by : (r : Read) → place_in (record_of r next) ≡ next
-    by (Read.Answer reply) = place
-    by (Read.BadLine at) = place
-    by Read.NoMore = place
+    by : (r : Option (Result Reply BadLine)) → place_in (record_of r next) ≡ next
+    by (Some (Ok reply)) = place
+    by (Some (Err bad)) = place
+    by None = place
 
 -- The reader stands in the buffer, or where it stood.
 next_fits : (lines : List ℕ) (at : ℕ) → length lines < 2 ^ 64 → at < 2 ^ 64 → after_line lines at < 2 ^ 64
@@ -105,6 +107,6 @@ pub refused-leaves : RefusedLeaves
 unfolding wrote_out
 refused-leaves fields target h = by (written fields target).given refl (rw (status-told fields target) at h)
   where
-    by : (w : Written) → (written fields target).given ≡ w → 1 ≤ written_status w → (written fields target).target ≡ target
-    by (Written.Line n) e k = absurd (omega arith)
-    by (Written.Refused why) e k = refused-unwritten fields target why e
+    by : (w : Result ℕ Refusal) → (written fields target).given ≡ w → 1 ≤ written_status w → (written fields target).target ≡ target
+    by (Ok n) e k = absurd (omega arith)
+    by (Err why) e k = refused-unwritten fields target why e

@@ -1,14 +1,13 @@
 -- `read_record` and `write_line`, and so `picman_read_answer` and `picman_write_call` of the library: what they give, and the lent buffer as they
 -- leave it.
 -- Assumes nothing.
-use Rattle.std.specs.Prelude.{ℕ, ◌+◌, ◌*◌, ◌/◌, ◌%◌, cond, List, [], ◌∷◌, ◌++◌, eqb, length}
+use Rattle.std.specs.Prelude.{ℕ, ◌+◌, ◌*◌, ◌/◌, ◌%◌, cond, List, [], ◌∷◌, ◌++◌, eqb, length, Option, Some, None, Result, Ok, Err}
 use Rattle.def.specs.declared.Refusal.{Refusal}
 use Rattle.def.specs.Refusals.{refusal_number}
 use Rattle.line.specs.declared.Reply.{Reply}
 use Rattle.line.specs.Answers.{reply, reply_bytes}
-use Rattle.reader.specs.declared.Read.{Read}
+use Rattle.reader.specs.declared.BadLine.{BadLine}
 use Rattle.reader.specs.Reading.{answer_at, after_line}
-use Rattle.writer.specs.declared.Written.{Written}
 use Rattle.writer.specs.Writing.{written}
 
 pub record LentOut : Type 0 where
@@ -35,16 +34,16 @@ place_record r next = reply_bytes r ++ place_bytes next
 abbrev pub no_reply : Reply
 no_reply = reply 0 0 0 0
 
-abbrev pub record_of : Read → ℕ → List ℕ
-record_of (Read.Answer r) next = place_record r next
-record_of (Read.BadLine at) next = place_record no_reply next
-record_of Read.NoMore next = place_record no_reply next
+abbrev pub record_of : Option (Result Reply BadLine) → ℕ → List ℕ
+record_of (Some (Ok r)) next = place_record r next
+record_of (Some (Err bad)) next = place_record no_reply next
+record_of None next = place_record no_reply next
 
 -- 0, 18 for a line that is no answer, 41 hex for no more.
-abbrev pub read_status : Read → ℕ
-read_status (Read.Answer r) = 0
-read_status (Read.BadLine at) = refusal_number Refusal.BadLine
-read_status Read.NoMore = 65
+abbrev pub read_status : Option (Result Reply BadLine) → ℕ
+read_status (Some (Ok r)) = 0
+read_status (Some (Err bad)) = refusal_number Refusal.BadLine
+read_status None = 65
 
 unfoldable pub read_out : List ℕ → ℕ → List ℕ → LentOut
 unfolding answer_at after_line
@@ -54,17 +53,17 @@ read_out lines at record_bytes =
     (lent_out (refusal_number Refusal.BadLine) record_bytes)
 
 -- 0, or the refusal.
-abbrev pub written_status : Written → ℕ
-written_status (Written.Line n) = 0
-written_status (Written.Refused why) = refusal_number why
+abbrev pub written_status : Result ℕ Refusal → ℕ
+written_status (Ok n) = 0
+written_status (Err why) = refusal_number why
 
 -- How long the line is, its newline counted; 0 under a refusal.
-abbrev pub written_length : Written → ℕ
-written_length (Written.Line n) = n
-written_length (Written.Refused why) = 0
+abbrev pub written_length : Result ℕ Refusal → ℕ
+written_length (Ok n) = n
+written_length (Err why) = 0
 
 -- Both as one number: the status in bits 0 to 7, the length in the bits above.
-abbrev pub written_word : Written → ℕ
+abbrev pub written_word : Result ℕ Refusal → ℕ
 written_word w = written_length w * 256 + written_status w
 
 unfoldable pub wrote_out : List ℕ → List ℕ → LentOut

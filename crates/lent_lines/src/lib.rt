@@ -2,15 +2,14 @@
 // that a display needs no parser of its own. Where the record's size does not fit it gives 18 and writes nothing.
 #![tactic(auto)]
 
-ghost use Rattle.std.specs.Prelude.{◌≡◌};
-ghost use Rattle.lent_lines.specs.LentLines.{lent_out, no_reply, place_record, record_of, read_status, read_out};
-ghost use Rattle.lent_lines.specs.LentLines.{written_status, written_length, wrote_out};
+ghost use Rattle.std.specs.Prelude.{◌≡◌, ◌≤◌};
+ghost use Rattle.lent_lines.specs.LentLines.{lent_out, place_record, record_of, read_status, read_out};
+ghost use Rattle.lent_lines.specs.LentLines.{written_length, written_word, wrote_out};
 
-use buffer::paste;
 use def::{DONE, Refusal};
 use line::{NO_MORE, Reply};
-use reader::{Read, after_line, answer_at};
-use writer::{Written, write_fields};
+use reader::{BadLine, after_line, answer_at};
+use writer::write_fields;
 
 const RECORD_LENGTH: usize = 15;
 
@@ -18,60 +17,55 @@ const RECORD_LENGTH: usize = 15;
 fn place_record(reply: Reply, next: usize) -> [u8; RECORD_LENGTH]
     ensures { result ≡ place_record reply next }
 {
-    let value = reply.value;
+    let [v0, v1, v2, v3] = reply.value.to_be_bytes();
+    let [n0, n1, n2, n3, n4, n5, n6, n7] = next.to_be_bytes();
     [
         reply.call,
         reply.status,
         reply.buf,
-        (value / 16_777_216 % 256) as u8,
-        (value / 65_536 % 256) as u8,
-        (value / 256 % 256) as u8,
-        (value % 256) as u8,
-        (next / 72_057_594_037_927_936 % 256) as u8,
-        (next / 281_474_976_710_656 % 256) as u8,
-        (next / 1_099_511_627_776 % 256) as u8,
-        (next / 4_294_967_296 % 256) as u8,
-        (next / 16_777_216 % 256) as u8,
-        (next / 65_536 % 256) as u8,
-        (next / 256 % 256) as u8,
-        (next % 256) as u8,
+        v0,
+        v1,
+        v2,
+        v3,
+        n0,
+        n1,
+        n2,
+        n3,
+        n4,
+        n5,
+        n6,
+        n7,
     ]
 }
 
-fn no_answer(next: usize) -> [u8; RECORD_LENGTH]
-    ensures { result ≡ place_record no_reply next }
+// The record of what the reader gave; where there is no answer its field bytes are zero.
+fn record_of(read: Option<Result<Reply, BadLine>>, next: usize) -> [u8; RECORD_LENGTH]
+    ensures { result ≡ record_of read next }
 {
-    let reply = Reply {
-        call: 0,
-        status: 0,
-        buf: 0,
-        value: 0,
+    let reply = match read {
+        Some(Ok(reply)) => reply,
+        Some(Err(_)) | None => Reply {
+            call: 0,
+            status: 0,
+            buf: 0,
+            value: 0,
+        },
     };
     place_record(reply, next)
 }
 
-fn record_of(read: Read, next: usize) -> [u8; RECORD_LENGTH]
-    ensures { result ≡ record_of read next }
-{
-    match read {
-        Read::Answer(reply) => place_record(reply, next),
-        Read::BadLine(_) => no_answer(next),
-        Read::NoMore => no_answer(next),
-    }
-}
-
-fn read_status(read: Read) -> u8
+fn read_status(read: Option<Result<Reply, BadLine>>) -> u8
     ensures { result ≡ read_status read }
 {
     match read {
-        Read::Answer(_) => DONE,
-        Read::BadLine(_) => u8::from(Refusal::BadLine),
-        Read::NoMore => NO_MORE,
+        Some(Ok(_)) => DONE,
+        Some(Err(_)) => u8::from(Refusal::BadLine),
+        None => NO_MORE,
     }
 }
 
-// The answer line that begins at a place of a buffer of lines. Writes its seven field bytes, zero where there is no answer, and where the reader
-// stands then: 0, 18 where it is no answer line, 41 hex where there is no more.
+/// The answer line that begins at a place of a buffer of lines. Writes its seven field bytes, zero where there is no answer, and where the
+/// reader stands then: 0, 18 where it is no answer line, 41 hex where there is no more.
 pub fn read_record(lines: &[u8], at: u64, out: &mut [u8]) -> u8
     ensures { lent_out result out.new ≡ read_out lines.now at out.old }
 {
@@ -81,34 +75,25 @@ pub fn read_record(lines: &[u8], at: u64, out: &mut [u8]) -> u8
     let place = at as usize;
     let next = after_line(lines, place);
     let read = answer_at(lines, place);
-    let bytes = record_of(read, next);
-    paste(out, 0, &bytes, RECORD_LENGTH);
+    out.copy_from_slice(&record_of(read, next));
     read_status(read)
 }
 
-fn written_status(written: Written) -> u8
-    ensures { result ≡ written_status written }
+// The length of a line above a status of 0, or the refusal's number.
+fn written_word(written: Result<usize, Refusal>) -> u32
+    requires { written_length written ≤ 27 }
+    ensures { result ≡ written_word written }
 {
     match written {
-        Written::Line(_) => DONE,
-        Written::Refused(why) => u8::from(why),
+        Ok(n) => n as u32 * 256 + DONE as u32,
+        Err(why) => u8::from(why) as u32,
     }
 }
 
-fn written_length(written: Written) -> usize
-    ensures { result ≡ written_length written }
-{
-    match written {
-        Written::Line(n) => n,
-        Written::Refused(_) => 0,
-    }
-}
-
-// Writes the line of a call, newline last, at the front of a buffer. Gives the line's length, newline counted, above a status of 0; 18 where
-// these are no call byte with its fields, and 20 where there is no room.
+/// Writes the line of a call, newline last, at the front of a buffer. Gives the line's length, newline counted, above a status of 0; 18 where
+/// these are no call byte with its fields, and 20 where there is no room.
 pub fn write_line(fields: &[u8], target: &mut [u8]) -> u32
     ensures { lent_out result target.new ≡ wrote_out fields.now target.old }
 {
-    let written = write_fields(fields, target);
-    written_length(written) as u32 * 256 + written_status(written) as u32
+    written_word(write_fields(fields, target))
 }

@@ -1,12 +1,12 @@
 -- The bodies of calls and of answers stand for their records, and the records for their bodies.
 -- Assumes nothing.
+use Rattle.std.specs.Prelude.{Option, Some, None}
 use Prim.Native.Nat.{ℕ, zero, suc, ◌+◌, ◌^◌, ◌<◌, ◌≤◌}
 use native.Mathlib.Omega.{arith}
 use native.Mathlib.Nat.{add-zero, zero-add, add-suc, suc-add}
 use mathlib.Core.Path.{◌≡◌, refl, sym, ap, subst, ◌∙◌}
 use mathlib.Core.Bool.{Bool, true, false, cond}
 use mathlib.Core.List.{List, [], ◌∷◌, ◌++◌}
-use mathlib.Core.Option.{Option, none, some}
 use lib.Dec.{eqb}
 use lib.ListN.{length}
 use borrow.Author.Tests.{ltb-false, le-ltb, eqb-true}
@@ -24,10 +24,10 @@ use Rattle.hex_digits.specs.Claims.{Lawful}
 use Rattle.line.specs.Claims.{CallFits, ReplyFits, CallsFaithful, AnswersFaithful}
 use Rattle.hex_digits.proofs.Faithful.{byte_fits, lines-faithful}
 
-some_is : {A : Type 0} {a b : A} → some a ≡ some b → a ≡ b
+some_is : {A : Type 0} {a b : A} → Some a ≡ Some b → a ≡ b
 some_is e = cc
 
-no-some : {A : Type 0} {a : A} → none ≡ some a → ⊥
+no-some : {A : Type 0} {a : A} → None ≡ Some a → ⊥
 no-some e = let z : ◌≡◌ {A = ℕ} 0 1 = cc in omega arith
 
 -- A list is its places.
@@ -59,18 +59,18 @@ module _ (b : List ℕ) (h : AreBytes b) where
 -- ---- answers
 
 module _ (b : List ℕ) (h : AreBytes b) (r : Reply) where
-  reply-found : (t : Bool) → eqb (length b) 7 ≡ t → cond t (some (reply (byte_at b 0) (byte_at b 1) (byte_at b 2) (word_at b 3 4 5 6))) none ≡ some r
+  reply-found : (t : Bool) → eqb (length b) 7 ≡ t → cond t (Some (reply (byte_at b 0) (byte_at b 1) (byte_at b 2) (word_at b 3 4 5 6))) None ≡ Some r
       → (length b ≡ 7) × (reply (byte_at b 0) (byte_at b 1) (byte_at b 2) (word_at b 3 4 5 6) ≡ r)
   reply-found true e f = (eqb-true (length b) 7 e, some_is f)
   reply-found false e f = absurd (no-some f)
 
-  reply-one : reply_in b ≡ some r → b ≡ reply_bytes r
+  reply-one : reply_in b ≡ Some r → b ≡ reply_bytes r
   unfolding entries_from
   reply-one e =
       let f = reply-found (eqb (length b) 7) refl e in
       places b 7 f.0 ∙ sym (rw (← f.1, word-bytes b h 3 4 5 6))
 
-  reply-fits : reply_in b ≡ some r → ReplyFits r
+  reply-fits : reply_in b ≡ Some r → ReplyFits r
   reply-fits e =
       let f = reply-found (eqb (length b) 7) refl e in
       subst ReplyFits f.1 (record { call = byte_fits b h 0; status = byte_fits b h 1; buf = byte_fits b h 2; value = word_fits b h 3 4 5 6 })
@@ -89,13 +89,13 @@ answers-lawful =
 
 -- What a body is, where it is a call.
 data CallBody (b : List ℕ) : Option Call → Type 0 where
-  init : byte_at b 0 ≡ 1 → length b ≡ 3 → CallBody b (some (Init (byte_at b 1) (byte_at b 2)))
-  get : byte_at b 0 ≡ 2 → length b ≡ 1 → CallBody b (some GetEmptyPic)
-  put : byte_at b 0 ≡ 3 → length b ≡ 11 → byte_at b 1 ≤ 15 → CallBody b (some (PutPic (byte_at b 1) (word_at b 2 3 4 5) (byte_at b 6) (word_at b 7 8 9 10)))
-  out : byte_at b 0 ≡ 4 → length b ≡ 1 → CallBody b (some OutPic)
-  lists : byte_at b 0 ≡ 5 → length b ≡ 12 → CallBody b (some (lists_in b))
-  derive : byte_at b 0 ≡ 6 → length b ≡ 3 → CallBody b (some (PocDerivation (byte_at b 1) (byte_at b 2)))
-  nothing : CallBody b none
+  init : byte_at b 0 ≡ 1 → length b ≡ 3 → CallBody b (Some (Init (byte_at b 1) (byte_at b 2)))
+  get : byte_at b 0 ≡ 2 → length b ≡ 1 → CallBody b (Some GetEmptyPic)
+  put : byte_at b 0 ≡ 3 → length b ≡ 11 → byte_at b 1 ≤ 15 → CallBody b (Some (PutPic (byte_at b 1) (word_at b 2 3 4 5) (byte_at b 6) (word_at b 7 8 9 10)))
+  out : byte_at b 0 ≡ 4 → length b ≡ 1 → CallBody b (Some OutPic)
+  lists : byte_at b 0 ≡ 5 → length b ≡ 12 → CallBody b (Some (lists_in b))
+  derive : byte_at b 0 ≡ 6 → length b ≡ 3 → CallBody b (Some (PocDerivation (byte_at b 1) (byte_at b 2)))
+  nothing : CallBody b None
 
 body_of : (b : List ℕ) → CallBody b (call_in b)
 unfolding call_in
@@ -118,7 +118,7 @@ body_of b =
     either false f g = g
 
     flags : byte_at b 0 ≡ 3 → length b ≡ 11 → (t : Bool) → bad_flags (byte_at b 1) ≡ t
-        → CallBody b (cond t none (some (PutPic (byte_at b 1) (word_at b 2 3 4 5) (byte_at b 6) (word_at b 7 8 9 10))))
+        → CallBody b (cond t None (Some (PutPic (byte_at b 1) (word_at b 2 3 4 5) (byte_at b 6) (word_at b 7 8 9 10))))
     flags p q true e = nothing
     flags p q false e = put p q (ltb-false 15 (byte_at b 1) e)
 
@@ -131,7 +131,7 @@ module _ (b : List ℕ) (h : AreBytes b) (call : Call) where
       ap (λ (l : List ℕ). first ∷ byte_at b 1 ∷ byte_at b 2 ∷ byte_at b 3 ∷ byte_at b 4 ∷ byte_at b 5 ∷ byte_at b 6 ∷ (l ++ rest)) (sym (word-bytes b h 7 8 9 10))
       ∙ ap (λ (l : List ℕ). first ∷ byte_at b 1 ∷ (l ++ (byte_at b 6 ∷ (word_bytes (word_at b 7 8 9 10) ++ rest)))) (sym (word-bytes b h 2 3 4 5))
 
-  call-one : {o : Option Call} → CallBody b o → o ≡ some call → b ≡ call_bytes call
+  call-one : {o : Option Call} → CallBody b o → o ≡ Some call → b ≡ call_bytes call
   unfolding entries_from
   call-one (init p n) e = places b 3 n ∙ rw p (ap call_bytes (some_is e))
   call-one (get p n) e = places b 1 n ∙ rw p (ap call_bytes (some_is e))
@@ -141,7 +141,7 @@ module _ (b : List ℕ) (h : AreBytes b) (call : Call) where
   call-one (derive p n) e = places b 3 n ∙ rw p (ap call_bytes (some_is e))
   call-one nothing e = absurd (no-some e)
 
-  call_fits : {o : Option Call} → CallBody b o → o ≡ some call → CallFits call
+  call_fits : {o : Option Call} → CallBody b o → o ≡ Some call → CallFits call
   unfolding CallFits
   call_fits (init p n) e = subst CallFits (some_is e) (byte_fits b h 1, byte_fits b h 2)
   call_fits (get p n) e = subst CallFits (some_is e) tt
@@ -166,7 +166,7 @@ call-bytes (RefpInit slice poc layer intra limit) f = (
 )
 call-bytes (PocDerivation length layer) f = (omega arith, (f.0, (f.1, tt)))
 
-call-reads : (call : Call) → CallFits call → call_in (call_bytes call) ≡ some call
+call-reads : (call : Call) → CallFits call → call_in (call_bytes call) ≡ Some call
 unfolding CallFits call_in
 call-reads (Init size refs) f = refl
 call-reads GetEmptyPic f = refl

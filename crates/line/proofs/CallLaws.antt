@@ -1,46 +1,44 @@
--- A line that is longer than every call line is bad: so its first 27 characters say what it says.
+-- A line of another length than a call line is bad; one that is longer than every call line: so its first 27 characters say what it says.
 -- Assumes nothing.
+use Rattle.std.specs.Prelude.{None}
 use Prim.Native.Nat.{ℕ, ◌%◌, ◌<◌}
 use native.Mathlib.Omega.{arith}
-use mathlib.Core.Path.{◌≡◌, refl, ap}
-use mathlib.Core.Bool.{Bool, true, false, cond, ◌&&◌}
+use mathlib.Core.Path.{◌≡◌, refl, ◌∙◌}
+use mathlib.Core.Bool.{Bool, true, false}
 use mathlib.Core.List.{List}
-use mathlib.Core.Option.{none}
 use lib.Dec.{eqb}
 use lib.ListN.{length}
 use borrow.Author.Tests.{ne_eqb, eqb-true}
 use Rattle.seq.specs.Lists.{all_of}
-use Rattle.line.specs.declared.Line.TheVariants.{Bad}
 use Rattle.hex_digits.proofs.HexLaws.{bytes-length, body-length, not-second}
-use Rattle.hex_digits.specs.Hex.{is_digit, bytes_of}
-use Rattle.hex_digits.specs.Frame.{is_checked, body_of, from_bytes, byte_at}
-use Rattle.line.specs.Calls.{longest_line, is_call, call_in, call_kind, line_for, read_line}
+use Rattle.seq.proofs.Tests.{and_left, and_right}
+use Rattle.hex_digits.specs.Hex.{is_digit, is_hex, bytes_of}
+use Rattle.hex_digits.specs.Frame.{is_checked, is_framed, body_of, byte_at}
+use Rattle.line.specs.Calls.{longest_line, is_call, call_in, read_line}
+use Rattle.framing.proofs.Framed.{some_byte}
+use Rattle.line.proofs.Reading.{not-framed, framed-line}
 
--- The body of a call has 12 bytes at most.
-pub longest-body : (b : List ℕ) → 12 < length b → call_in b ≡ none
+-- The body of a call has one of four lengths.
+pub other-body : (b : List ℕ) → (length b ≡ 1 → ⊥) → (length b ≡ 3 → ⊥) → (length b ≡ 11 → ⊥) → (length b ≡ 12 → ⊥) → call_in b ≡ None
 unfolding call_in
-longest-body b h =
-    rw (
-      no 1 3 (λ (e : length b ≡ 3). omega arith),
-      no 2 1 (λ (e : length b ≡ 1). omega arith),
-      no 3 11 (λ (e : length b ≡ 11). omega arith),
-      no 4 1 (λ (e : length b ≡ 1). omega arith),
-      no 5 12 (λ (e : length b ≡ 12). omega arith),
-      no 6 3 (λ (e : length b ≡ 3). omega arith),
-    )
+other-body b one three eleven twelve = rw (no 1 3 three, no 2 1 one, no 3 11 eleven, no 4 1 one, no 5 12 twelve, no 6 3 three)
   where
     no : (call size : ℕ) → (length b ≡ size → ⊥) → is_call call size b ≡ false
     no call size n = not-second (eqb (byte_at b 0) call) (eqb (length b) size) (ne_eqb (length b) size n)
 
-pub too_long : (cs : List ℕ) → longest_line < length cs → read_line cs ≡ Bad
-unfolding read_line call_kind
-too_long cs h = by-hex (all_of is_digit cs) (eqb (length cs % 2) 0) refl
+-- So a call line has one of four, two digits a byte and the check byte's.
+pub other-line : (cs : List ℕ) → (length cs ≡ 4 → ⊥) → (length cs ≡ 8 → ⊥) → (length cs ≡ 24 → ⊥) → (length cs ≡ 26 → ⊥) → read_line cs ≡ None
+other-line cs four eight long longest = by (is_framed cs) refl
   where
-    by-sum : length cs % 2 ≡ 0 → (b : Bool) → line_for (cond b (call_in (body_of (bytes_of cs))) none) ≡ Bad
-    by-sum e true = ap line_for (longest-body (body_of (bytes_of cs)) (omega (arith, bytes-length cs, body-length (bytes_of cs))))
-    by-sum e false = refl
+    by : (b : Bool) → is_framed cs ≡ b → read_line cs ≡ None
+    by false e = not-framed cs e
+    by true e =
+        let even : length cs % 2 ≡ 0 = eqb-true (length cs % 2) 0 (and_right (all_of is_digit cs) (eqb (length cs % 2) 0) (and_left (is_hex cs) (is_checked (bytes_of cs)) e)) in
+        let some = some_byte cs e in
+        let bytes = bytes-length cs in
+        let body = body-length (bytes_of cs) in
+        framed-line cs e
+        ∙ other-body (body_of (bytes_of cs)) (λ n. four (omega arith)) (λ n. eight (omega arith)) (λ n. long (omega arith)) (λ n. longest (omega arith))
 
-    by-hex : (a b : Bool) → eqb (length cs % 2) 0 ≡ b → line_for (cond (a && b) (from_bytes call_kind (bytes_of cs)) none) ≡ Bad
-    by-hex false b e = refl
-    by-hex true false e = refl
-    by-hex true true e = by-sum (eqb-true (length cs % 2) 0 e) (is_checked (bytes_of cs))
+pub too_long : (cs : List ℕ) → longest_line < length cs → read_line cs ≡ None
+too_long cs h = other-line cs (λ e. omega arith) (λ e. omega arith) (λ e. omega arith) (λ e. omega arith)

@@ -1,41 +1,41 @@
 -- What each test of a line's characters and bytes decides.
 -- Assumes nothing.
+use Rattle.std.specs.Prelude.{None}
 use Prim.Native.Nat.{ℕ, ◌%◌, ◌<◌}
 use mathlib.Core.Path.{◌≡◌, ap}
 use mathlib.Core.Bool.{true, false}
 use mathlib.Core.List.{List}
 use lib.Dec.{ltb, eqb}
 use lib.ListN.{length}
-use borrow.Author.Tests.{ne_eqb, eq-eqb, lt-ltb}
+use borrow.Author.Tests.{ne_eqb, eq-eqb, eqb-true, lt-ltb}
 use Rattle.seq.specs.Lists.{all_of}
-use Rattle.seq.proofs.Tests.{and_both}
-use Rattle.line.specs.declared.Line.TheVariants.{Bad}
+use Rattle.seq.proofs.Tests.{and_both, and_left, and_right}
 use Rattle.hex_digits.specs.Hex.{is_digit, is_hex, bytes_of, sum8}
 use Rattle.hex_digits.specs.Frame.{body_of, is_checked, is_framed}
-use Rattle.line.specs.Calls.{call_in, call_kind, line_for, call_from, read_line}
+use Rattle.line.specs.Calls.{call_in, call_kind, call_from, read_line}
 use Rattle.hex_digits.proofs.HexLaws.{not-second}
 use Rattle.framing.proofs.Framed.{unframed, of-body}
 
--- Bytes that have no check byte are Bad, and of any others the body is read.
-pub unchecked : (bs : List ℕ) → is_checked bs ≡ false → call_from bs ≡ Bad
+-- Bytes that have no check byte are bad, and of any others the body is read.
+pub unchecked : (bs : List ℕ) → is_checked bs ≡ false → call_from bs ≡ None
 unfolding call_from call_kind
 unchecked bs e = rw e
 
-pub checked : (bs : List ℕ) → is_checked bs ≡ true → call_from bs ≡ line_for (call_in (body_of bs))
+pub checked : (bs : List ℕ) → is_checked bs ≡ true → call_from bs ≡ call_in (body_of bs)
 unfolding call_from call_kind
 checked bs e = rw e
 
-pub no_bytes : (bs : List ℕ) → length bs ≡ 0 → call_from bs ≡ Bad
+pub no_bytes : (bs : List ℕ) → length bs ≡ 0 → call_from bs ≡ None
 no_bytes bs e = unchecked bs (rw e)
 
-pub bad_sum : (bs : List ℕ) → (sum8 bs ≡ 0 → ⊥) → call_from bs ≡ Bad
+pub bad_sum : (bs : List ℕ) → (sum8 bs ≡ 0 → ⊥) → call_from bs ≡ None
 bad_sum bs h = unchecked bs (not-second (ltb 0 (length bs)) (eqb (sum8 bs) 0) (ne_eqb (sum8 bs) 0 h))
 
-pub good-sum : (bs : List ℕ) → 0 < length bs → sum8 bs ≡ 0 → call_from bs ≡ line_for (call_in (body_of bs))
+pub good-sum : (bs : List ℕ) → 0 < length bs → sum8 bs ≡ 0 → call_from bs ≡ call_in (body_of bs)
 good-sum bs h s = checked bs (and_both (lt-ltb 0 (length bs) h) (eq-eqb (sum8 bs) 0 s))
 
--- A line is Bad where a character is no digit, or one digit has no other to pair with.
-pub bad-digits : (cs : List ℕ) → is_hex cs ≡ false → read_line cs ≡ Bad
+-- A line is bad where a character is no digit, or one digit has no other to pair with.
+pub bad-digits : (cs : List ℕ) → is_hex cs ≡ false → read_line cs ≡ None
 unfolding read_line
 bad-digits cs e = rw e
 
@@ -44,10 +44,15 @@ unfolding read_line call_from
 hex-line cs e f = rw (e, eq-eqb (length cs % 2) 0 f)
 
 -- The same of the line as a whole.
-pub not-framed : (cs : List ℕ) → is_framed cs ≡ false → read_line cs ≡ Bad
+pub not-framed : (cs : List ℕ) → is_framed cs ≡ false → read_line cs ≡ None
 unfolding read_line
-not-framed cs e = ap line_for (unframed call_kind cs e)
+not-framed cs e = unframed call_kind cs e
 
-pub framed-line : (cs : List ℕ) → is_framed cs ≡ true → read_line cs ≡ line_for (call_in (body_of (bytes_of cs)))
+pub framed-line : (cs : List ℕ) → is_framed cs ≡ true → read_line cs ≡ call_in (body_of (bytes_of cs))
 unfolding read_line call_kind
-framed-line cs e = ap line_for (of-body call_kind cs e)
+framed-line cs e = of-body call_kind cs e
+
+pub framed-bytes : (cs : List ℕ) → is_framed cs ≡ true → read_line cs ≡ call_from (bytes_of cs)
+framed-bytes cs e =
+    let hex = and_left (is_hex cs) (is_checked (bytes_of cs)) e in
+    hex-line cs (and_left (all_of is_digit cs) (eqb (length cs % 2) 0) hex) (eqb-true (length cs % 2) 0 (and_right (all_of is_digit cs) (eqb (length cs % 2) 0) hex))

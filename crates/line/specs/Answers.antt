@@ -1,7 +1,6 @@
 -- Answer lines: an answer is the call byte, the status, the buffer number and four bytes.
 -- Assumes nothing.
-use Rattle.std.specs.Prelude.{ℕ, ◌+◌, ◌*◌, cond, List, [], ◌∷◌, ◌++◌, eqb, length}
-use Rattle.std.proofs.Math.Option.{Option, none, some}
+use Rattle.std.specs.Prelude.{ℕ, ◌+◌, ◌*◌, cond, List, [], ◌∷◌, ◌++◌, eqb, length, Option, Some, None}
 use Rattle.def.specs.declared.Answer.{Answer}
 use Rattle.def.specs.declared.Answer.TheVariants.{Done, Picture, NotYet, NoMore, Counts, Refused}
 use Rattle.def.specs.Refusals.{refusal_number}
@@ -38,7 +37,7 @@ reply_bytes r = r.call ∷ r.status ∷ r.buf ∷ word_bytes r.value
 
 -- Any body of seven bytes is an answer.
 abbrev pub reply_in : List ℕ → Option Reply
-reply_in b = cond (eqb (length b) 7) (some (reply (byte_at b 0) (byte_at b 1) (byte_at b 2) (word_at b 3 4 5 6))) none
+reply_in b = cond (eqb (length b) 7) (Some (reply (byte_at b 0) (byte_at b 1) (byte_at b 2) (word_at b 3 4 5 6))) None
 
 unfoldable pub answer_kind : Kind Reply
 answer_kind = record { meaning = reply_in; body = reply_bytes }

@@ -1,11 +1,8 @@
 -- Call lines: which bodies are calls, and what their fields are. Any other line is bad, refusal 18.
 -- Assumes nothing.
-use Rattle.std.specs.Prelude.{ℕ, Bool, cond, ◌&&◌, List, [], ◌∷◌, ◌++◌, ltb, eqb, length}
-use Rattle.std.proofs.Math.Option.{Option, none, some}
+use Rattle.std.specs.Prelude.{ℕ, Bool, cond, ◌&&◌, List, [], ◌∷◌, ◌++◌, ltb, eqb, length, Option, Some, None}
 use Rattle.line.specs.declared.Call.{Call}
 use Rattle.line.specs.declared.Call.TheVariants.{Init, GetEmptyPic, PutPic, OutPic, RefpInit, PocDerivation}
-use Rattle.line.specs.declared.Line.{Line}
-use Rattle.line.specs.declared.Line.TheVariants.{Good, Bad}
 use Rattle.hex_digits.specs.Hex.{bytes_of, sum8, word_bytes}
 use Rattle.hex_digits.specs.Frame.{byte_at, word_at, body_of, Kind, from_bytes, from_line}
 
@@ -26,8 +23,8 @@ bad_flags flags = ltb highest_flags flags
 
 abbrev pub put_in : List ℕ → Option Call
 put_in b =
-    cond (bad_flags (byte_at b 1)) none
-    (some (PutPic (byte_at b 1) (word_at b 2 3 4 5) (byte_at b 6) (word_at b 7 8 9 10)))
+    cond (bad_flags (byte_at b 1)) None
+    (Some (PutPic (byte_at b 1) (word_at b 2 3 4 5) (byte_at b 6) (word_at b 7 8 9 10)))
 
 abbrev pub lists_in : List ℕ → Call
 lists_in b = RefpInit (byte_at b 1) (word_at b 2 3 4 5) (byte_at b 6) (word_at b 7 8 9 10) (byte_at b 11)
@@ -35,12 +32,12 @@ lists_in b = RefpInit (byte_at b 1) (word_at b 2 3 4 5) (byte_at b 6) (word_at b
 -- The call that a body stands for.
 unfoldable pub call_in : List ℕ → Option Call
 call_in b =
-    cond (is_call 1 3 b) (some (Init (byte_at b 1) (byte_at b 2)))
-    (cond (is_call 2 1 b) (some GetEmptyPic)
+    cond (is_call 1 3 b) (Some (Init (byte_at b 1) (byte_at b 2)))
+    (cond (is_call 2 1 b) (Some GetEmptyPic)
     (cond (is_call 3 11 b) (put_in b)
-    (cond (is_call 4 1 b) (some OutPic)
-    (cond (is_call 5 12 b) (some (lists_in b))
-    (cond (is_call 6 3 b) (some (PocDerivation (byte_at b 1) (byte_at b 2))) none)))))
+    (cond (is_call 4 1 b) (Some OutPic)
+    (cond (is_call 5 12 b) (Some (lists_in b))
+    (cond (is_call 6 3 b) (Some (PocDerivation (byte_at b 1) (byte_at b 2))) None)))))
 
 -- The body of a call: its call byte, then its fields, numbers in four bytes, the highest first.
 abbrev pub call_bytes : Call → List ℕ
@@ -55,16 +52,12 @@ unfoldable pub call_kind : Kind Call
 unfolding call_in
 call_kind = record { meaning = call_in; body = call_bytes }
 
-abbrev pub line_for : Option Call → Line
-line_for (some call) = Good call
-line_for none = Bad
-
--- The bytes of a call line, check byte last.
-unfoldable pub call_from : List ℕ → Line
+-- The bytes of a call line, check byte last; nothing where they are a bad line.
+unfoldable pub call_from : List ℕ → Option Call
 unfolding sum8 body_of call_kind
-call_from bs = line_for (from_bytes call_kind bs)
+call_from bs = from_bytes call_kind bs
 
 -- The characters of a call line, without its newline.
-unfoldable pub read_line : List ℕ → Line
+unfoldable pub read_line : List ℕ → Option Call
 unfolding bytes_of sum8 body_of call_kind
-read_line cs = line_for (from_line call_kind cs)
+read_line cs = from_line call_kind cs

@@ -62,20 +62,6 @@ pub enum Call {
     },
 }
 
-// What a line is: a call, or what refusal 18 stands for.
-#[derive(Clone, Copy)]
-pub enum Line {
-    Good(Call),
-    Bad,
-}
-
-// What stands at a place of a buffer: a good line with its newline, its call and the place behind it, or anything else.
-#[derive(Clone, Copy)]
-pub enum LineAt {
-    Good(Call, usize),
-    Other,
-}
-
 // The fields of an answer line, without its check byte.
 #[derive(Clone, Copy)]
 pub struct Reply {

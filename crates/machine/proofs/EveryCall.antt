@@ -1,6 +1,6 @@
 -- What holds of every call and every line, from the laws of each call.
 -- Assumes nothing.
-use Rattle.std.specs.Prelude.{Result, Ok, Err}
+use Rattle.std.specs.Prelude.{Result, Ok, Err, Some, None}
 use Prim.Native.Nat.{ℕ}
 use native.Mathlib.Omega.{arith}
 use mathlib.Core.Path.{◌≡◌, refl, sym, ap, ◌∙◌}
@@ -34,7 +34,6 @@ use Rattle.picman.proofs.Keeps.{remarked-size}
 use Rattle.picman.proofs.PutLaws.{Puts, puts, put-refused, put-why, put-safe}
 use Rattle.picman.proofs.PutLaws as put-laws
 use Rattle.line.specs.declared.Call.TheVariants.{Init, GetEmptyPic, PutPic, OutPic, RefpInit, PocDerivation}
-use Rattle.line.specs.declared.Line.TheVariants.{Good, Bad}
 use Rattle.line.specs.Answers.{reply_of}
 use Rattle.machine.specs.declared.Machine.{Machine}
 use Rattle.machine.specs.Step.{put_call_of, refp_call_of, derived_reply, step, step_line}
@@ -78,8 +77,8 @@ call-unchanged m (PocDerivation L t) d = refused-number _ d (λ why e. ap (with_
 
 pub line-unchanged : LineUnchanged
 unfolding step_line
-line-unchanged m (Good c) t = call-unchanged m c t
-line-unchanged m Bad t = refl
+line-unchanged m (Some c) t = call-unchanged m c t
+line-unchanged m None t = refl
 
 -- ---- a whole state stays whole
 
@@ -124,8 +123,8 @@ call-sound m (PocDerivation L t) s = record { whole_state = s.whole_state; all_s
 
 pub line-sound : LineSound
 unfolding step_line
-line-sound m (Good c) s = call-sound m c s
-line-sound m Bad s = s
+line-sound m (Some c) s = call-sound m c s
+line-sound m None s = s
 
 pub new-sound : NewSound
 new-sound = record { whole_state = new-whole; all_slots = refl }
@@ -176,8 +175,8 @@ call-not-seven m (PocDerivation L t) s e = by ((derive-why L t m.poc StateNotWho
 
 pub line-not-seven : LineNotSeven
 unfolding step_line
-line-not-seven m (Good c) s e = call-not-seven m c s e
-line-not-seven m Bad s e = absurd (omega arith)
+line-not-seven m (Some c) s e = call-not-seven m c s e
+line-not-seven m None s e = absurd (omega arith)
 
 -- what turns a call down is none of them
 init-none : {pm : EvcPm} {size refs : ℕ} {why : Refusal} → OfNoLine why → InitTurnedDown pm size refs why → ⊥
@@ -235,9 +234,9 @@ call-gives-none m (PocDerivation L t) why o e = derive-none o ((derive-why L t m
 
 pub line-gives-none : LineGivesNone
 unfolding step_line
-line-gives-none m (Good c) why o e = call-gives-none m c why o e
-line-gives-none m Bad _ same_number e = absurd (omega arith)
-line-gives-none m Bad _ no_such_place e = absurd (omega arith)
-line-gives-none m Bad _ bad_length e = absurd (omega arith)
-line-gives-none m Bad _ bad_plan e = absurd (omega arith)
-line-gives-none m Bad _ no_room e = absurd (omega arith)
+line-gives-none m (Some c) why o e = call-gives-none m c why o e
+line-gives-none m None _ same_number e = absurd (omega arith)
+line-gives-none m None _ no_such_place e = absurd (omega arith)
+line-gives-none m None _ bad_length e = absurd (omega arith)
+line-gives-none m None _ bad_plan e = absurd (omega arith)
+line-gives-none m None _ no_room e = absurd (omega arith)

@@ -1,5 +1,6 @@
 -- From what a call of the core comes to, to what it does to the machine that the arrays stand for.
 -- Assumes nothing.
+use Rattle.std.specs.Prelude.{Option}
 use mathlib.Core.Path.{◌≡◌, refl, sym, ap, ◌∙◌, subst}
 use mathlib.Core.Bool.{Bool, true, false, cond, not, ◌||◌}
 use mathlib.Core.Bool as Bool
@@ -20,7 +21,7 @@ use Rattle.picman.specs.{Init.init, Init.init_whole, Get.get, Get.get_whole, Out
 use Rattle.refp.specs.Lists.{lists_whole, lists}
 use Rattle.refp.specs.Running.{ListsCame}
 use Rattle.whole.specs.Whole.{whole}
-use Rattle.line.specs.declared.{Call.Call, Line.Line, Reply.Reply}
+use Rattle.line.specs.declared.{Call.Call, Reply.Reply}
 use Rattle.line.specs.declared.Call.TheVariants.{Init, GetEmptyPic, PutPic, OutPic, RefpInit, PocDerivation}
 use Rattle.def.specs.declared.Answer.TheVariants.{Refused}
 use Rattle.def.specs.declared.Refusal.TheVariants.{StateNotWhole}
@@ -158,7 +159,7 @@ record-makes keys rows s L t sized e f = rw (e, f) (record {
 })
 
 -- A call on a machine that runs leaves one that runs.
-pub runs_on : {keys rows keys' rows' : List ℕ} {after s : Scalars} {r : Reply} (l : Line) → Runs keys rows s
+pub runs_on : {keys rows keys' rows' : List ℕ} {after s : Scalars} {r : Reply} (l : Option Call) → Runs keys rows s
     → Makes r after s keys rows keys' rows' (step_line (machine_in keys rows s) l) → Runs keys' rows' after
 runs_on {keys} {rows} {s = s} l runs c = record {
   sized = c.still_sized;

@@ -2,12 +2,12 @@
 -- so refusal 7 never follows in a run from the new machine; and no line gives the refusals of functions that no line calls. The proofs stand
 -- in proofs/EveryCall.antt.
 -- Assumes nothing.
-use Rattle.std.specs.Prelude.{◌≡◌, true, length}
+use Rattle.std.specs.Prelude.{◌≡◌, true, length, Option}
 use Rattle.def.specs.declared.Refusal.{Refusal}
 use Rattle.def.specs.Refusals.{refusal_number, NumberInUse}
 use Rattle.def.specs.State.{slots}
 use Rattle.whole.specs.Whole.{whole}
-use Rattle.line.specs.declared.{Call.Call, Line.Line, Reply.Reply}
+use Rattle.line.specs.declared.{Call.Call, Reply.Reply}
 use Rattle.machine.specs.declared.Machine.{Machine}
 use Rattle.machine.specs.Step.{new_machine, step, step_line}
 
@@ -20,7 +20,7 @@ CallUnchanged = (m : Machine) (c : Call) → TurnedDown (step m c).reply → (st
 
 -- A bad line too.
 abbrev pub LineUnchanged : Type 0
-LineUnchanged = (m : Machine) (l : Line) → TurnedDown (step_line m l).reply → (step_line m l).machine ≡ m
+LineUnchanged = (m : Machine) (l : Option Call) → TurnedDown (step_line m l).reply → (step_line m l).machine ≡ m
 
 -- A machine whose state is whole, with all its slots.
 pub record Sound (m : Machine) : Type 0 where
@@ -31,7 +31,7 @@ abbrev pub CallSound : Type 0
 CallSound = (m : Machine) (c : Call) → Sound m → Sound (step m c).machine
 
 abbrev pub LineSound : Type 0
-LineSound = (m : Machine) (l : Line) → Sound m → Sound (step_line m l).machine
+LineSound = (m : Machine) (l : Option Call) → Sound m → Sound (step_line m l).machine
 
 abbrev pub NewSound : Type 0
 NewSound = Sound new_machine
@@ -41,7 +41,7 @@ abbrev pub CallNotSeven : Type 0
 CallNotSeven = (m : Machine) (c : Call) → Sound m → (step m c).reply.status ≡ 7 → ⊥
 
 abbrev pub LineNotSeven : Type 0
-LineNotSeven = (m : Machine) (l : Line) → Sound m → (step_line m l).reply.status ≡ 7 → ⊥
+LineNotSeven = (m : Machine) (l : Option Call) → Sound m → (step_line m l).reply.status ≡ 7 → ⊥
 
 -- Refusals of what is no call of a line: 13 of copy, 14 of copy and why, 17 of the depths and the planner, the planner's 19, and 20 of the
 -- writer of call lines.
@@ -57,4 +57,4 @@ abbrev pub CallGivesNone : Type 0
 CallGivesNone = (m : Machine) (c : Call) (why : Refusal) → OfNoLine why → (step m c).reply.status ≡ refusal_number why → ⊥
 
 abbrev pub LineGivesNone : Type 0
-LineGivesNone = (m : Machine) (l : Line) (why : Refusal) → OfNoLine why → (step_line m l).reply.status ≡ refusal_number why → ⊥
+LineGivesNone = (m : Machine) (l : Option Call) (why : Refusal) → OfNoLine why → (step_line m l).reply.status ≡ refusal_number why → ⊥

@@ -1,6 +1,6 @@
 -- Section 11 of the specification: what each call does to state, lists and record, and what its answer shows.
 -- Assumes nothing.
-use Rattle.std.specs.Prelude.{ℕ, ◌*◌, ◌/◌, ◌%◌, Bool, false, not, List, eqb, pos, replicate, Result, Ok, Err}
+use Rattle.std.specs.Prelude.{ℕ, ◌*◌, ◌/◌, ◌%◌, Bool, false, not, List, eqb, pos, replicate, Result, Ok, Err, Option, Some, None}
 use Rattle.def.specs.Constants.{slice_type_of}
 use Rattle.def.specs.Refusals.{refusal_number}
 use Rattle.def.specs.State.{list_places, new_pm}
@@ -19,8 +19,6 @@ use Rattle.picman.specs.Out.{out}
 use Rattle.picman.specs.Init.{init}
 use Rattle.line.specs.declared.Call.{Call}
 use Rattle.line.specs.declared.Call.TheVariants.{Init, GetEmptyPic, PutPic, OutPic, RefpInit, PocDerivation}
-use Rattle.line.specs.declared.Line.{Line}
-use Rattle.line.specs.declared.Line.TheVariants.{Good, Bad}
 use Rattle.line.specs.declared.Reply.{Reply}
 use Rattle.line.specs.Answers.{reply, reply_of, no_buffer, twos_complement, bad_line_reply}
 use Rattle.machine.specs.declared.Machine.{Machine}
@@ -87,7 +85,7 @@ step m (RefpInit slice poc layer intra limit) = on_lists 5 m (lists m.pm m.refp 
 step m (PocDerivation L t) = on_record 6 m (derive L t m.poc)
 
 -- One line: a bad one changes nothing.
-unfoldable pub step_line : Machine → Line → Stepped
+unfoldable pub step_line : Machine → Option Call → Stepped
 unfolding step
-step_line m (Good c) = step m c
-step_line m Bad = stepped bad_line_reply m
+step_line m (Some c) = step m c
+step_line m None = stepped bad_line_reply m

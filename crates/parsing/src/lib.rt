@@ -1,86 +1,84 @@
-// Call lines read: a body, the bytes of a line, or its characters, as a call or as bad. The program, the library and the writer of call lines
+// Call lines read: a body, the bytes of a line, or its characters, as a call or as none. The program, the library and the writer of call lines
 // read calls by this.
 #![tactic(auto)]
 
-ghost use Rattle.std.specs.Prelude.{◌≡◌, ◌<◌};
-ghost use Rattle.line.specs.Calls.{is_call, call_in, line_for, call_from, read_line};
+ghost use Rattle.std.specs.Prelude.{◌≡◌, ◌*◌, length};
+ghost use Rattle.line.specs.Calls.{call_in, call_from, read_line};
 
 use framing::read_framed;
-use line::{Call, GET_EMPTY_PIC, INIT, Line, OUT_PIC, POC_DERIVATION, PUT_PIC, REFP_INIT};
+use line::{Call, GET_EMPTY_PIC, HIGHEST_FLAGS, INIT, OUT_PIC, POC_DERIVATION, PUT_PIC, REFP_INIT};
 use summing::is_checked;
-use unpacking::{lists_in, put_in};
 
-// The longest call line has 26 digits.
-pub const LONGEST_LINE: usize = 26;
-
-// And 13 bytes.
-const LONGEST_CALL: usize = 13;
-
-// Whether a body is of the kind that a call byte and a length name.
-fn is_call(body: &[u8], call: u8, size: usize) -> bool
-    requires { 0 < size }
-    ensures { result ≡ is_call call size body.now }
-{
-    if body.len() != size {
-        return false;
-    }
-    body[0] == call
-}
-
-// The call that a body stands for, by its call byte and its length.
+/// The call that a body stands for, by its call byte and its length. Flags of a put that mean nothing make it none.
 #[tactic(auto, unfolding(line::specs::Calls::call_in))]
-pub fn call_in(body: &[u8]) -> Line
-    ensures { result ≡ line_for (call_in body.now) }
+pub fn call_in(body: &[u8]) -> Option<Call>
+    ensures { result ≡ call_in body.now }
 {
-    if is_call(body, INIT, 3) {
-        return Line::Good(Call::Init {
-            max_pb_size: body[1],
-            max_num_ref_pics: body[2],
-        });
+    match *body {
+        [INIT, max_pb_size, max_num_ref_pics] => Some(Call::Init {
+            max_pb_size,
+            max_num_ref_pics,
+        }),
+        [GET_EMPTY_PIC] => Some(Call::GetEmptyPic),
+        [PUT_PIC, flags, p0, p1, p2, p3, temporal_id, g0, g1, g2, g3] if flags <= HIGHEST_FLAGS => {
+            Some(Call::PutPic {
+                flags,
+                poc: u32::from_be_bytes([p0, p1, p2, p3]),
+                temporal_id,
+                ref_pic_gap_length: u32::from_be_bytes([g0, g1, g2, g3]),
+            })
+        }
+        [OUT_PIC] => Some(Call::OutPic),
+        [REFP_INIT, slice_type, p0, p1, p2, p3, layer_id, i0, i1, i2, i3, limit] => {
+            Some(Call::RefpInit {
+                slice_type,
+                poc: u32::from_be_bytes([p0, p1, p2, p3]),
+                layer_id,
+                last_intra: u32::from_be_bytes([i0, i1, i2, i3]),
+                max_num_ref_pics: limit,
+            })
+        }
+        [POC_DERIVATION, log2_sub_gop_length, tid] => Some(Call::PocDerivation {
+            log2_sub_gop_length,
+            tid,
+        }),
+        _ => None,
     }
-    if is_call(body, GET_EMPTY_PIC, 1) {
-        return Line::Good(Call::GetEmptyPic);
-    }
-    if is_call(body, PUT_PIC, 11) {
-        return put_in(body);
-    }
-    if is_call(body, OUT_PIC, 1) {
-        return Line::Good(Call::OutPic);
-    }
-    if is_call(body, REFP_INIT, 12) {
-        return Line::Good(lists_in(body));
-    }
-    if is_call(body, POC_DERIVATION, 3) {
-        return Line::Good(Call::PocDerivation {
-            log2_sub_gop_length: body[1],
-            tid: body[2],
-        });
-    }
-    Line::Bad
 }
 
-// The bytes of a call line, check byte last.
-pub fn read_call(bytes: &[u8]) -> Line
+/// The bytes of a call line, check byte last.
+#[tactic(auto, using(line::proofs::Reading::unchecked))]
+pub fn read_call(bytes: &[u8]) -> Option<Call>
     ensures { result ≡ call_from bytes.now }
 {
     if !is_checked(bytes) {
-        return Line::Bad;
+        return None;
     }
     let n = bytes.len() - 1;
     call_in(&bytes[..n])
 }
 
-// The characters of a line, without its newline.
-pub fn read_line(digits: &[u8]) -> Line
+// The characters of a line of `N` bytes.
+fn read_sized<const N: usize>(digits: &[u8]) -> Option<Call>
+    requires { length digits.now ≡ 2 * N }
     ensures { result ≡ read_line digits.now }
 {
-    if digits.len() > LONGEST_LINE {
-        return Line::Bad;
+    let bytes = read_framed::<N>(digits)?;
+    read_call(&bytes)
+}
+
+/// The longest call line has 26 digits.
+pub const LONGEST_LINE: usize = 26;
+
+/// The characters of a line, without its newline. A call line has one of four lengths.
+pub fn read_line(digits: &[u8]) -> Option<Call>
+    ensures { result ≡ read_line digits.now }
+{
+    match digits.len() {
+        4 => read_sized::<2>(digits),
+        8 => read_sized::<4>(digits),
+        24 => read_sized::<12>(digits),
+        LONGEST_LINE => read_sized::<13>(digits),
+        _ => None,
     }
-    let mut bytes = [0u8; LONGEST_CALL];
-    if !read_framed(digits, &mut bytes) {
-        return Line::Bad;
-    }
-    let n = digits.len() / 2 - 1;
-    call_in(&bytes[..n])
 }

@@ -1,11 +1,11 @@
 // The running machine for C: three slices that the caller owns, keys, rows and registers, on which calls work in place, with any bits in them.
 // One function for each call, with plain numbers, and one for the bytes of a call line; all are thin over crates `call_lines` and `answering`,
 // `recording`, `renewing`, `one_entry` and `wire`.
+ghost use Rattle.std.specs.Prelude.{Some};
 #![tactic(auto, using(answering::proofs::OnLine::on_line))]
 
 ghost use Rattle.keys.specs.Keys.{lists_in};
 ghost use Rattle.line.specs.declared.Call.TheVariants.{Init, GetEmptyPic, OutPic, RefpInit, PocDerivation};
-ghost use Rattle.line.specs.declared.Line.TheVariants.{Good};
 ghost use Rattle.refp.specs.Copy.{copy};
 ghost use Rattle.running.specs.Slices.{slices};
 ghost use Rattle.answering.specs.Answered.{OnSlices};
@@ -47,7 +47,7 @@ pub extern "C" fn picman_machine_init(
 ) -> u64
     ensures { let before = slices keys.old rows.old registers.old in
         let after = slices keys.new rows.new registers.new in
-        OnSlices result (Good (Init max_pb_size max_num_ref_pics)) before after }
+        OnSlices result (Some (Init max_pb_size max_num_ref_pics)) before after }
 {
     answer_on(
         keys,
@@ -66,7 +66,7 @@ pub extern "C" fn picman_machine_get(
 ) -> u64
     ensures { let before = slices keys.old rows.old registers.old in
         let after = slices keys.new rows.new registers.new in
-        OnSlices result (Good GetEmptyPic) before after }
+        OnSlices result (Some GetEmptyPic) before after }
 {
     answer_on(keys, rows, registers, get_line())
 }
@@ -103,7 +103,7 @@ pub extern "C" fn picman_machine_out(
 ) -> u64
     ensures { let before = slices keys.old rows.old registers.old in
         let after = slices keys.new rows.new registers.new in
-        OnSlices result (Good OutPic) before after }
+        OnSlices result (Some OutPic) before after }
 {
     answer_on(keys, rows, registers, out_line())
 }
@@ -122,7 +122,7 @@ pub extern "C" fn picman_machine_lists(
 ) -> u64
     ensures { let before = slices keys.old rows.old registers.old in
         let after = slices keys.new rows.new registers.new in
-        OnSlices result (Good (RefpInit slice_type poc layer_id last_intra max_num_ref_pics)) before after }
+        OnSlices result (Some (RefpInit slice_type poc layer_id last_intra max_num_ref_pics)) before after }
 {
     answer_on(
         keys,
@@ -143,7 +143,7 @@ pub extern "C" fn picman_machine_derive(
 ) -> u64
     ensures { let before = slices keys.old rows.old registers.old in
         let after = slices keys.new rows.new registers.new in
-        OnSlices result (Good (PocDerivation log2_sub_gop_length tid)) before after }
+        OnSlices result (Some (PocDerivation log2_sub_gop_length tid)) before after }
 {
     derive_on(keys, rows, registers, log2_sub_gop_length, tid)
 }

@@ -1,4 +1,5 @@
 -- A refusal writes nothing. Assumes nothing.
+use Rattle.std.specs.Prelude.{Option}
 use Prim.Native.Nat.{ℕ, ◌≤◌}
 use mathlib.Core.Path.{◌≡◌, refl}
 use mathlib.Core.Bool.{Bool, true, false, cond, ◌&&◌}
@@ -7,10 +8,11 @@ use native.Mathlib.Omega.{arith}
 use lib.Dec.{eqb}
 use lib.ListN.{length}
 use Rattle.def.specs.declared.{EvcPm.EvcPm, RefpCall.RefpCall}
-use Rattle.line.specs.declared.{Line.Line}
+use Rattle.def.specs.declared.EvcPm.{EvcPm}
+use Rattle.line.specs.declared.Call.{Call}
 use Rattle.line.specs.Calls.{call_from}
 use Rattle.image.specs.Image.{pm_of, is_image}
-use Rattle.reasons.specs.declared.{WhyAnswer.WhyAnswer}
+use Rattle.reasons.specs.declared.WhyAnswer.{WhyAnswer}
 use Rattle.reasons.specs.Reasons.{why}
 use Rattle.machine.specs.Lent.{machine_at, sized}
 use Rattle.std.specs.Prelude.{Option, Some, None}
@@ -25,7 +27,7 @@ asked-kept : (pm : EvcPm) (q : Option RefpCall) (slot : ℕ) (reason : List ℕ)
 asked-kept pm (Some c) slot reason h = shown-kept (why pm c slot) reason h
 asked-kept pm None slot reason h = refl
 
-fits_kept : (fit : Bool) (pm : EvcPm) (line : Line) (slot : ℕ) (reason : List ℕ)
+fits_kept : (fit : Bool) (pm : EvcPm) (line : Option Call) (slot : ℕ) (reason : List ℕ)
     → 1 ≤ (if_fits fit pm line slot reason).given → (if_fits fit pm line slot reason).reason ≡ reason
 fits_kept fit pm line slot reason = pick (fit && eqb (length reason) reason_length)
   where

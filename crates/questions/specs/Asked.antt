@@ -4,7 +4,8 @@
 use Rattle.std.specs.Prelude.{ℕ, Bool, cond, ◌&&◌, List, [], ◌∷◌, eqb, length, Option, Some, None}
 use Rattle.def.specs.Refusals.{refusal_number}
 use Rattle.def.specs.declared.{EvcPm.EvcPm, RefpCall.RefpCall, Refusal.Refusal}
-use Rattle.line.specs.declared.{Call.Call, Line.Line}
+use Rattle.line.specs.declared.{Call.Call}
+use Rattle.line.specs.declared.Call.{Call}
 use Rattle.line.specs.Calls.{call_from}
 use Rattle.image.specs.Image.{pm_of, is_image}
 use Rattle.reasons.specs.declared.{Reason.Reason, WhyAnswer.WhyAnswer}
@@ -23,9 +24,9 @@ question_of Call.OutPic = None
 question_of (Call.RefpInit slice poc layer intra limit) = Some (refp_call_of slice poc layer intra limit)
 question_of (Call.PocDerivation L t) = None
 
-abbrev pub question_in : Line → Option RefpCall
-question_in (Line.Good call) = question_of call
-question_in Line.Bad = None
+abbrev pub question_in : Option Call → Option RefpCall
+question_in (Some call) = question_of call
+question_in None = None
 
 -- ---- what is left
 
@@ -78,7 +79,7 @@ why_asked pm None slot reason = bad_why reason
 -- ---- of an image, and of the running machine
 
 -- 18 unless the state's form, the size of the reason and the call fit.
-abbrev pub if_fits : Bool → EvcPm → Line → ℕ → List ℕ → WhyLeft
+abbrev pub if_fits : Bool → EvcPm → Option Call → ℕ → List ℕ → WhyLeft
 if_fits fit pm line slot reason = cond (fit && eqb (length reason) reason_length) (why_asked pm (question_in line) slot reason) (bad_why reason)
 
 unfoldable pub why_of_image : List ℕ → List ℕ → ℕ → List ℕ → WhyLeft

@@ -9,7 +9,7 @@ ghost use Rattle.line.specs.Calls.{call_from};
 ghost use Rattle.questions.specs.Asked.{question_of, question_in, reason_number, place_told, reason_length, why_left, shown_why};
 
 use def::{RefpCall, Refusal};
-use line::{Call, Line};
+use line::Call;
 use machine::fields::refp_call_of;
 use parsing::read_call;
 use reasons::{Reason, WhyAnswer};
@@ -37,8 +37,8 @@ pub fn question_in(call: &[u8]) -> Option<RefpCall>
     ensures { result ≡ question_in (call_from call.now) }
 {
     match read_call(call) {
-        Line::Good(good) => question_of(good),
-        Line::Bad => None,
+        Some(good) => question_of(good),
+        None => None,
     }
 }
 

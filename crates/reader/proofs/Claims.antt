@@ -1,5 +1,6 @@
 -- The claims about the reader, proved: step by step it gives the lines of the buffer, since what stands up to the next newline is the next line.
 -- Assumes nothing.
+use Rattle.std.specs.Prelude.{Some, None, Ok}
 use Prim.Native.Nat.{ℕ, zero, suc, ◌+◌, ◌<◌, ◌≤◌}
 use native.Mathlib.Omega.{arith}
 use mathlib.Core.Path.{◌≡◌, refl, sym, ap, ◌∙◌}
@@ -20,10 +21,7 @@ use Rattle.line.specs.declared.Reply.{Reply}
 use Rattle.line.specs.Answers.{reply_bytes, answer_kind, answer_digits, answer_line}
 use Rattle.line.specs.Claims.{ReplyFits}
 use Rattle.line.proofs.Bodies.{answers-lawful, answers-faithful}
-use Rattle.answers.specs.declared.AnswerLine.{AnswerLine}
-use Rattle.answers.specs.Answers.{answer_for}
-use Rattle.reader.specs.declared.Read.{Read}
-use Rattle.reader.specs.Reading.{read_for, read_line_as, answer_at, after_line, until_no_more, reads_from, reads_of}
+use Rattle.reader.specs.Reading.{read_line_as, answer_at, after_line, until_no_more, reads_from, reads_of}
 use Rattle.reader.specs.Claims.{ReadsEveryLine, ReadsFromPlace, AllFit, PrintedIsRead, StaysAtEnd, LongerIsBad, ThenEmptyLine}
 
 pub stays-at-end : StaysAtEnd
@@ -37,11 +35,6 @@ longer-is-bad = (refl, refl)
 pub then-empty-line : ThenEmptyLine
 unfolding lines_from reads_of answer_line answer_digits digits_of bytes_of sum8 body_of answer_kind all_of
 then-empty-line = refl
-
--- What a line gives is not that there is no more.
-a-line : (at : ℕ) (l : AnswerLine) {rest : List Read} → until_no_more (read_for at l) rest ≡ read_for at l ∷ rest
-a-line at (AnswerLine.Good reply) = refl
-a-line at AnswerLine.Bad = refl
 
 module _ (buffer : List ℕ) where
   none_left : (at : ℕ) → length buffer ≤ at → (place : ℕ) → reads_of place (lines_from [] (drop at buffer)) ≡ []
@@ -89,14 +82,13 @@ module _ (buffer : List ℕ) where
 
       by : (b : Bool) → ltb at (length buffer) ≡ b → reads_from (suc n) buffer at ≡ reads_of at (lines_from [] (drop at buffer))
       by false e =
-          let here : answer_at buffer at ≡ Read.NoMore = rw e in
+          let here : answer_at buffer at ≡ None = rw e in
           rw here (sym (none_left at (ltb-false at (length buffer) e) at))
       by true e =
           let l = ltb-true at (length buffer) e in
-          let here : answer_at buffer at ≡ read_line_as at (line_at buffer at) = rw e in
+          let here : answer_at buffer at ≡ Some (read_line_as at (line_at buffer at)) = rw e in
           rw (
             here,
-            a-line at (answer_for (from_line answer_kind (line_at buffer at))),
             rest l,
           ) (sym (ap (reads_of at) (first-line [] (drop at buffer) (omega (arith, length-drop at buffer)))))
 
@@ -133,11 +125,11 @@ unfolding AllFit flat_map lines_from
 written-lines [] f = refl
 written-lines (r ∷ rs) f = rw (written-lines rs f.1) at (answer-first r (flat_map answer_line rs) f.0)
 
-digits-read : (at : ℕ) (r : Reply) → ReplyFits r → read_line_as at (answer_digits r) ≡ Read.Answer r
+digits-read : (at : ℕ) (r : Reply) → ReplyFits r → read_line_as at (answer_digits r) ≡ Ok r
 unfolding answer_digits answer_kind
 digits-read at r f = rw (answers-faithful.reads_back r f)
 
-read_back : (rs : List Reply) (at : ℕ) → AllFit rs → reads_of at (map answer_digits rs) ≡ map Read.Answer rs
+read_back : (rs : List Reply) (at : ℕ) → AllFit rs → reads_of at (map answer_digits rs) ≡ map Ok rs
 unfolding AllFit reads_of
 read_back [] at f = refl
 read_back (r ∷ rs) at f = rw (digits-read at r f.0, read_back rs (at + length (answer_digits r) + 1) f.1)

@@ -3,42 +3,30 @@
 #![tactic(auto)]
 
 ghost use Rattle.std.specs.Prelude.{◌≡◌};
-ghost use Rattle.reader.specs.Reading.{read_for, answer_at, after_line};
+ghost use Rattle.reader.specs.Reading.{answer_at, after_line};
 
-use answers::{AnswerLine, read_answer};
+use answers::read_answer;
 use buffer::line_end;
 use line::Reply;
 
-// What stands where the reader stands.
+/// No answer line: refusal 18, with the place of the line's first byte, counted from 0.
 #[derive(Clone, Copy)]
-pub enum Read {
-    Answer(Reply),
-    // No answer line: refusal 18, with the place of the line's first byte, counted from 0.
-    BadLine(usize),
-    NoMore,
+pub struct BadLine {
+    pub at: usize,
 }
 
-fn read_of(line: AnswerLine, at: usize) -> Read
-    ensures { result ≡ read_for at line }
-{
-    match line {
-        AnswerLine::Good(reply) => Read::Answer(reply),
-        AnswerLine::Bad => Read::BadLine(at),
-    }
-}
-
-// The line that begins at a position.
-pub fn answer_at(lines: &[u8], at: usize) -> Read
+/// The line that begins at a position; nothing at the end or past it.
+pub fn answer_at(lines: &[u8], at: usize) -> Option<Result<Reply, BadLine>>
     ensures { result ≡ answer_at lines.now at }
 {
     if lines.len() <= at {
-        return Read::NoMore;
+        return None;
     }
     let end = line_end(lines, at);
-    read_of(read_answer(&lines[at..end]), at)
+    Some(read_answer(&lines[at..end]).ok_or(BadLine { at }))
 }
 
-// Where the next line begins: behind the next newline, and at the end where there is none.
+/// Where the next line begins: behind the next newline, and at the end where there is none.
 pub fn after_line(lines: &[u8], at: usize) -> usize
     ensures { result ≡ after_line lines.now at }
 {
@@ -58,25 +46,24 @@ pub struct AnswerReader<'a> {
     pub at: usize,
 }
 
-// A reader at the start of a buffer.
-pub fn new<'a>(lines: &'a [u8]) -> AnswerReader<'a>
-    ensures { (result.lines ≡ lines.entry) × (result.at ≡ 0) }
-{
-    AnswerReader { lines, at: 0 }
-}
+impl<'a> AnswerReader<'a> {
+    /// A reader at the start of a buffer.
+    pub fn new(lines: &'a [u8]) -> AnswerReader<'a>
+        ensures { (result.lines ≡ lines.entry) × (result.at ≡ 0) }
+    {
+        AnswerReader { lines, at: 0 }
+    }
 
-// What stands where the reader stands; the reader moves on to the next line.
-pub fn next_answer<'s, 'a>(r: &'s mut AnswerReader<'a>) -> Read
-    ensures { let before = r.old in
-        let after = r.new in
-        (result ≡ answer_at before.lines.now before.at)
-        × (after.lines ≡ before.lines)
-        × (after.at ≡ after_line before.lines.now before.at) }
-{
-    let lines = r.lines;
-    let at = r.at;
-    let next = after_line(lines, at);
-    let read = answer_at(lines, at);
-    r.at = next;
-    read
+    /// What stands where the reader stands; the reader moves on to the next line.
+    pub fn next_answer(&mut self) -> Option<Result<Reply, BadLine>>
+        ensures { let before = self.old in
+            let after = self.new in
+            (result ≡ answer_at before.lines.now before.at)
+            × (after.lines ≡ before.lines)
+            × (after.at ≡ after_line before.lines.now before.at) }
+    {
+        let read = answer_at(self.lines, self.at);
+        self.at = after_line(self.lines, self.at);
+        read
+    }
 }

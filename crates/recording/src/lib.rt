@@ -3,11 +3,10 @@
 // which would be in vain here.
 #![tactic(auto)]
 
-ghost use Rattle.std.specs.Prelude.{◌≡◌, List, ℕ, length};
+ghost use Rattle.std.specs.Prelude.{◌≡◌, List, ℕ, length, Some};
 ghost use Rattle.keys.specs.Keys.{Sized};
 ghost use Rattle.registers.specs.Registers.{registers_length};
 ghost use Rattle.line.specs.declared.Call.TheVariants.{PocDerivation};
-ghost use Rattle.line.specs.declared.Line.TheVariants.{Good};
 ghost use Rattle.running.specs.Slices.{slices, CallLeaves};
 ghost use Rattle.answering.specs.Answered.{OnSlices};
 ghost use Rattle.recording.specs.Recorded.{Recorded};
@@ -59,7 +58,7 @@ pub fn derive_on(
 ) -> u64
     ensures { let before = slices keys.now rows.now registers.old in
         let after = slices keys.now rows.now registers.new in
-        OnSlices result (Good (PocDerivation log2_sub_gop_length tid)) before after }
+        OnSlices result (Some (PocDerivation log2_sub_gop_length tid)) before after }
 {
     if !is_sized(keys, rows, registers) {
         return answer_word(bad_line_reply());

@@ -1,45 +1,52 @@
-// An answer's eight bytes, check byte last, and its line in hex. The library hands out the bytes.
+// An answer's eight bytes, check byte last, and its line in hex, as an array or written into a buffer. The library hands out the bytes, the
+// program the lines.
 #![tactic(auto)]
 
-ghost use Rattle.std.specs.Prelude.{◌≡◌};
+ghost use Rattle.std.specs.Prelude.{◌≡◌, ◌+◌, ◌≤◌, length};
+ghost use Rattle.std.proofs.Math.Seq.{paste};
 ghost use Rattle.hex_digits.specs.Frame.{with_check};
 ghost use Rattle.line.specs.Answers.{reply_bytes, answer_line};
 
-use hex_digits::{high_digit, low_digit};
+use framing::write_framed;
 use line::Reply;
-use summing::{check_byte, sum8};
+use summing::check_byte;
 
-// The bytes of an answer, check byte last.
+// An answer line has sixteen digits and its newline.
+const ANSWER_SIZE: usize = 17;
+
+// The body of an answer.
+fn reply_bytes(reply: Reply) -> [u8; 7]
+    ensures { result ≡ reply_bytes reply }
+{
+    let [a, b, c, d] = reply.value.to_be_bytes();
+    [reply.call, reply.status, reply.buf, a, b, c, d]
+}
+
+/// The bytes of an answer, check byte last.
 pub fn answer_bytes(reply: Reply) -> [u8; 8]
     ensures { result ≡ with_check (reply_bytes reply) }
 {
-    let value = reply.value;
-    let mut bytes = [
-        reply.call,
-        reply.status,
-        reply.buf,
-        (value / 16_777_216 % 256) as u8,
-        (value / 65_536 % 256) as u8,
-        (value / 256 % 256) as u8,
-        (value % 256) as u8,
-        0,
-    ];
-    let sum = sum8(&bytes);
-    bytes[7] = check_byte(sum);
-    bytes
+    let body = reply_bytes(reply);
+    let [call, status, buf, a, b, c, d] = body;
+    [call, status, buf, a, b, c, d, check_byte(&body)]
 }
 
-// The line of an answer: its bytes in hex, and the newline.
-pub fn answer_line(reply: Reply) -> [u8; 17]
+/// The line of an answer: its bytes in hex, and the newline.
+pub fn answer_line(reply: Reply) -> [u8; ANSWER_SIZE]
     ensures { result ≡ answer_line reply }
 {
-    let bytes = answer_bytes(reply);
-    let mut line = [b'\n'; 17];
-    let mut i = 0;
-    while i < 8 {
-        line[2 * i] = high_digit(bytes[i]);
-        line[2 * i + 1] = low_digit(bytes[i]);
-        i += 1;
-    }
+    let mut line = [0; ANSWER_SIZE];
+    write_framed(&mut line, &reply_bytes(reply));
     line
+}
+
+/// Writes the line of an answer, and gives the place behind it.
+pub fn write_reply(out: &mut [u8], at: usize, reply: Reply) -> usize
+    requires { at + ANSWER_SIZE ≤ length out.old }
+    ensures line { out.new ≡ paste out.old at (answer_line reply) ANSWER_SIZE }
+    ensures next { result ≡ at + ANSWER_SIZE }
+{
+    let next = at + ANSWER_SIZE;
+    out[at..next].copy_from_slice(&answer_line(reply));
+    next
 }

@@ -1,5 +1,6 @@
 -- The next line of a piece: by a search, and as one that stands whole in the piece; and what a line does to a machine that runs.
 -- Assumes nothing.
+use Rattle.std.specs.Prelude.{Option, Some, None}
 use Prim.Native.Nat.{ℕ, ◌+◌}
 use native.Mathlib.Omega.{arith}
 use mathlib.Core.Path.{◌≡◌, refl, sym, ap, ◌∙◌, subst}
@@ -7,8 +8,7 @@ use mathlib.Core.Bool.{Bool, true, false, cond}
 use mathlib.Core.List.{List, [], ◌++◌}
 use lib.Dec.{ltb}
 use lib.ListN.{length}
-use Rattle.line.specs.declared.{Call.Call, Line.Line, LineAt.LineAt, Reply.Reply}
-use Rattle.line.specs.declared.Line.TheVariants.{Good, Bad}
+use Rattle.line.specs.declared.{Call.Call, Reply.Reply}
 use Rattle.line.specs.Answers.{bad_line_reply}
 use Rattle.line.specs.Calls.{read_line}
 use Rattle.line.specs.Lines.{line_end, line_at, whole_line, call_at}
@@ -20,43 +20,43 @@ use Rattle.run.specs.Session.{NextIs}
 -- What a good line that was found whole says.
 pub record Found (piece : List ℕ) (at : ℕ) (call : Call) (next : ℕ) : Type 0 where
   pub ends : ltb (line_end piece at) (length piece) ≡ true
-  pub says : read_line (line_at piece at) ≡ Good call
+  pub says : read_line (line_at piece at) ≡ Some call
   pub behind : next ≡ line_end piece at + 1
 
-other-good : {call : Call} {next : ℕ} → LineAt.Other ≡ LineAt.Good call next → ⊥
+other-good : {A : Type 0} {a : A} → None ≡ Some a → ⊥
 other-good e = let z : ◌≡◌ {A = ℕ} 0 1 = cc in omega arith
 
-whole-good : (l : Line) (call : Call) (next end : ℕ) → whole_line l end ≡ LineAt.Good call next → (l ≡ Good call) × (next ≡ end)
-whole-good (Good c) call next end e = (ap Good (same-call e), sym (same_next e))
+whole-good : (l : Option Call) (call : Call) (next end : ℕ) → whole_line l end ≡ Some (call, next) → (l ≡ Some call) × (next ≡ end)
+whole-good (Some c) call next end e = (ap Some (same-call e), sym (same_next e))
   where
-    call_of : LineAt → Call
-    call_of (LineAt.Good k n) = k
-    call_of LineAt.Other = call
+    call_of : Option (Call × ℕ) → Call
+    call_of (Some (k, n)) = k
+    call_of None = call
 
-    next_of : LineAt → ℕ
-    next_of (LineAt.Good k n) = n
-    next_of LineAt.Other = next
+    next_of : Option (Call × ℕ) → ℕ
+    next_of (Some (k, n)) = n
+    next_of None = next
 
-    same-call : LineAt.Good c end ≡ LineAt.Good call next → c ≡ call
+    same-call : ◌≡◌ {A = Option (Call × ℕ)} (Some (c, end)) (Some (call, next)) → c ≡ call
     same-call e = ap call_of e
 
-    same_next : LineAt.Good c end ≡ LineAt.Good call next → end ≡ next
+    same_next : ◌≡◌ {A = Option (Call × ℕ)} (Some (c, end)) (Some (call, next)) → end ≡ next
     same_next e = ap next_of e
-whole-good Bad call next end e = absurd (other-good e)
+whole-good None call next end e = absurd (other-good e)
 
-pub found : (piece : List ℕ) (at : ℕ) (call : Call) (next : ℕ) → call_at piece at ≡ LineAt.Good call next → Found piece at call next
+pub found : (piece : List ℕ) (at : ℕ) (call : Call) (next : ℕ) → call_at piece at ≡ Some (call, next) → Found piece at call next
 unfolding call_at
 found piece at call next e = pick (ltb (line_end piece at) (length piece)) refl e
   where
     pick : (b : Bool) → ltb (line_end piece at) (length piece) ≡ b
-        → cond b (whole_line (read_line (line_at piece at)) (line_end piece at + 1)) LineAt.Other ≡ LineAt.Good call next → Found piece at call next
+        → cond b (whole_line (read_line (line_at piece at)) (line_end piece at + 1)) None ≡ Some (call, next) → Found piece at call next
     pick true f e =
         let w = whole-good (read_line (line_at piece at)) call next (line_end piece at + 1) e in
         record { ends = f; says = w.0; behind = w.1 }
     pick false f e = absurd (other-good e)
 
-pub next-found : {piece held : List ℕ} {at : ℕ} {call : Call} {next : ℕ} → call_at piece at ≡ LineAt.Good call next → held ≡ []
-    → NextIs (record { complete = true; line = Good call; next = next }) held piece at
+pub next-found : {piece held : List ℕ} {at : ℕ} {call : Call} {next : ℕ} → call_at piece at ≡ Some (call, next) → held ≡ []
+    → NextIs (record { complete = true; line = Some call; next = next }) held piece at
 next-found {piece} {at = at} {call} {next} e none =
     let f = found piece at call next e in
     record {
@@ -65,12 +65,12 @@ next-found {piece} {at = at} {call} {next} e none =
       behind = λ t. f.behind;
     }
 
-pub by-line : {r : Reply} {after s : Scalars} {keys rows keys' rows' : List ℕ} {l k : Line} → l ≡ k
+pub by-line : {r : Reply} {after s : Scalars} {keys rows keys' rows' : List ℕ} {l k : Option Call} → l ≡ k
     → Makes r after s keys rows keys' rows' (step_line (machine_in keys rows s) k) → Makes r after s keys rows keys' rows' (step_line (machine_in keys rows s) l)
-by-line {r} {after} {s} {keys} {rows} {keys'} {rows'} e c = subst (λ (x : Line). Makes r after s keys rows keys' rows' (step_line (machine_in keys rows s) x)) (sym e) c
+by-line {r} {after} {s} {keys} {rows} {keys'} {rows'} e c = subst (λ (x : Option Call). Makes r after s keys rows keys' rows' (step_line (machine_in keys rows s) x)) (sym e) c
 
 pub bad-makes : {keys rows : List ℕ} {s : Scalars} (r : Reply) → Runs keys rows s → r ≡ bad_line_reply
-    → Makes r s s keys rows keys rows (step_line (machine_in keys rows s) Bad)
+    → Makes r s s keys rows keys rows (step_line (machine_in keys rows s) None)
 unfolding step_line
 bad-makes r runs e = rw e (record {
   replies = refl;

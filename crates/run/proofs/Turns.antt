@@ -1,6 +1,7 @@
 -- What holds from line to line while a piece is run: the answers so far stand at the front of the output, which is as it was behind them,
 -- and the run goes on from the machine and the line that it has come to.
 -- Assumes nothing.
+use Rattle.std.specs.Prelude.{Option}
 use Prim.Native.Nat.{ℕ, suc, ◌+◌, ◌*◌, ◌≤◌, ◌<◌}
 use native.Mathlib.Omega.{arith}
 use mathlib.Core.Path.{◌≡◌, refl, sym, ap, ◌∙◌}
@@ -8,7 +9,7 @@ use mathlib.Core.List.{List, [], ◌++◌, append-nil, append_assoc}
 use lib.ListN.{length, take, drop, length-drop, take-append-drop}
 use lib.Seq.{take_all, drop-drop, drop-paste, length-take-le, paste, take-paste, length-paste}
 use Rattle.seq.specs.Lists.{lowest}
-use Rattle.line.specs.declared.Line.{Line}
+use Rattle.line.specs.declared.Call.{Call}
 use Rattle.line.specs.declared.Reply.{Reply}
 use Rattle.hex_digits.specs.Hex.{digits_of}
 use Rattle.line.specs.Calls.{read_line}
@@ -49,7 +50,7 @@ module _ {from : Runner} {piece before : List ℕ} {m : Machine} {line : List �
   pub fits : len + answer_size ≤ length out
   fits = omega (arith, g.len-fits, g.out-size, g.room)
 
-  goes_on : (l : Line) → l ≡ read_line (line ++ line_at piece at) → (r : Reply) (n : Machine) → step_line m l ≡ stepped r n
+  goes_on : (l : Option Call) → l ≡ read_line (line ++ line_at piece at) → (r : Reply) (n : Machine) → step_line m l ≡ stepped r n
       → feed (runner_of m line) (drop at piece) ≡ after (answer_line r) (feed (runner_of n []) (drop (line_end piece at + 1) piece))
   goes_on l e r n s =
       let h : k < length (drop at piece) = omega (arith, length-drop at piece) in
@@ -60,7 +61,7 @@ module _ {from : Runner} {piece before : List ℕ} {m : Machine} {line : List �
       (ap (step_line m) (sym e) ∙ s)
 
   -- a turn, by the values that the code has
-  pub turned : (l : Line) → l ≡ read_line (line ++ line_at piece at) → (r : Reply) (n : Machine) → step_line m l ≡ stepped r n
+  pub turned : (l : Option Call) → l ≡ read_line (line ++ line_at piece at) → (r : Reply) (n : Machine) → step_line m l ≡ stepped r n
       → (empty : List ℕ) → empty ≡ [] → (next : ℕ) → next ≡ line_end piece at + 1 → (end : ℕ) → end ≡ len + answer_size
       → (more : List ℕ) → more ≡ paste out len (answer_line r) answer_size → Going from piece before n empty next end more
   turned l e r n s empty none next p end q more w =

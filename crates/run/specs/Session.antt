@@ -3,7 +3,6 @@
 use Rattle.std.specs.Prelude.{ℕ, ◌+◌, ◌*◌, ◌≤◌, ◌≡◌, true, List, [], ◌++◌, ltb, length, take, drop, replicate}
 use Rattle.keys.specs.Keys.{rows_length}
 use Rattle.def.specs.State.{slots}
-use Rattle.hex_digits.specs.Hex.{digit_tables}
 use Rattle.line.specs.Calls.{read_line}
 use Rattle.line.specs.Lines.{line_end, line_at}
 use Rattle.machine.specs.Running.{machine_in, new_scalars, Runs}
@@ -43,9 +42,8 @@ abbrev pub new_rows : List ℕ
 new_rows = replicate rows_length 0
 
 -- There is room for an answer to each byte, since each may be a newline.
-pub record RunRoom (keys rows : List ℕ) (s : Session) (tables piece out : List ℕ) : Type 0 where
+pub record RunRoom (keys rows : List ℕ) (s : Session) (piece out : List ℕ) : Type 0 where
   pub sound : SoundSession keys rows s
-  pub tables_are : tables ≡ digit_tables
   pub answers_fit : answer_size * length piece ≤ length out
 
 -- The output begins with what the run over the piece writes and is as it was behind that; the session is the run after it, up to what is
@@ -57,9 +55,8 @@ pub record RanOver (keys rows : List ℕ) (s : Session) (piece out : List ℕ) (
   pub line : held_line r.session.partial ≡ take kept_length (feed (runner_in keys rows s) piece).runner.line
   pub stays_sound : SoundSession keys' rows' r.session
 
-pub record EndRoom (keys rows : List ℕ) (s : Session) (tables out : List ℕ) : Type 0 where
+pub record EndRoom (keys rows : List ℕ) (s : Session) (out : List ℕ) : Type 0 where
   pub sound : SoundSession keys rows s
-  pub tables_are : tables ≡ digit_tables
   pub answer_fits : answer_size ≤ length out
 
 -- At the end of the input: the answer to a last line that lacks its newline, and the output as it was behind it; the machine is the one

@@ -6,21 +6,19 @@
 pub mod partial;
 
 ghost use Rattle.std.specs.Prelude.{◌≡◌, ◌≤◌, length};
-ghost use Rattle.hex_digits.specs.Hex.{digit_tables};
 ghost use Rattle.machine.specs.Step.{step_line};
 ghost use Rattle.machine.specs.Running.{machine_in, Runs, Makes};
 ghost use Rattle.run.specs.Partial.{held_line, Room};
 ghost use Rattle.run.specs.Session.{NextIs, NewSession, RunRoom, RanOver, EndRoom, EndedOver};
 
 use buffer::line_end;
-use line::{Line, LineAt, Reply, bad_line_reply};
-use lookup::TABLE_SIZE;
+use line::{Call, Reply, bad_line_reply};
 use machine::fresh::new_scalars;
 use machine::Scalars;
 use making::make_call;
 use partial::{Partial, extended, no_line, read_with};
+use replies::write_reply;
 use scan::read_line_at;
-use writing::write_reply;
 
 // What goes from piece to piece beside the lent arrays: the machine's scalars, and the line that is not finished yet.
 #[derive(Clone, Copy)]
@@ -40,7 +38,7 @@ pub struct Ran {
 #[derive(Clone, Copy)]
 struct NextLine {
     complete: bool,
-    line: Line,
+    line: Option<Call>,
     next: usize,
 }
 
@@ -53,7 +51,7 @@ fn searched_line(partial: Partial, piece: &[u8], at: usize) -> NextLine
     if piece.len() <= end {
         return NextLine {
             complete: false,
-            line: Line::Bad,
+            line: None,
             next: at,
         };
     }
@@ -66,47 +64,45 @@ fn searched_line(partial: Partial, piece: &[u8], at: usize) -> NextLine
 }
 
 // A good line that stands whole in the piece is read by its length; anything else takes the longer way.
-fn next_line(tables: &[u16; TABLE_SIZE], partial: Partial, piece: &[u8], at: usize) -> NextLine
-    requires { (tables.now ≡ digit_tables) × Room partial × (at ≤ length piece.now) }
+fn next_line(partial: Partial, piece: &[u8], at: usize) -> NextLine
+    requires { Room partial × (at ≤ length piece.now) }
     ensures { NextIs result (held_line partial) piece.now at }
 {
     if partial.len != 0 {
         return searched_line(partial, piece, at);
     }
-    let found = read_line_at(tables, piece, at);
-    let LineAt::Good(call, next) = found else {
+    let found = read_line_at(piece, at);
+    let Some((call, next)) = found else {
         return searched_line(partial, piece, at);
     };
     NextLine {
         complete: true,
-        line: Line::Good(call),
+        line: Some(call),
         next,
     }
 }
 
 // What a line does; a bad one changes nothing.
-fn answer_line(keys: &mut [u64], rows: &mut [u32], s: &mut Scalars, line: Line) -> Reply
+fn answer_line(keys: &mut [u64], rows: &mut [u32], s: &mut Scalars, line: Option<Call>) -> Reply
     requires { Runs keys.old rows.old s.old }
     ensures { let m = machine_in keys.old rows.old s.old in
         Makes result s.new s.old keys.old rows.old keys.new rows.new (step_line m line) }
 {
     match line {
-        Line::Good(call) => make_call(keys, rows, s, call),
-        Line::Bad => bad_line_reply(),
+        Some(call) => make_call(keys, rows, s, call),
+        None => bad_line_reply(),
     }
 }
 
 // Answers each complete line of a piece, one behind the other in `out`; what stands behind the last newline waits for the next piece.
-// The digit tables are lent, since a constant table would be built anew at each use.
 pub fn run_piece(
     keys: &mut [u64],
     rows: &mut [u32],
     session: Session,
-    tables: &[u16; TABLE_SIZE],
     piece: &[u8],
     out: &mut [u8],
 ) -> Ran
-    requires { RunRoom keys.old rows.old session tables.now piece.now out.old }
+    requires { RunRoom keys.old rows.old session piece.now out.old }
     ensures { RanOver keys.old rows.old session piece.now out.old
         result keys.new rows.new out.new }
 {
@@ -114,15 +110,15 @@ pub fn run_piece(
     let mut partial = session.partial;
     let mut at: usize = 0;
     let mut len: usize = 0;
-    let mut found = next_line(tables, partial, piece, 0);
+    let mut found = next_line(partial, piece, 0);
     while found.complete {
         let line = found.line;
         let reply = answer_line(keys, rows, &mut scalars, line);
-        len = write_reply(tables, out, len, reply);
+        len = write_reply(out, len, reply);
         let none = no_line();
         partial = none;
         at = found.next;
-        let next = next_line(tables, partial, piece, at);
+        let next = next_line(partial, piece, at);
         found = next;
     }
     let rest = extended(partial, &piece[at..]);
@@ -143,14 +139,8 @@ pub fn new_session() -> Session
 }
 
 // At the end of the input: answers a last line that lacks its newline, as if it had one.
-pub fn run_end(
-    keys: &mut [u64],
-    rows: &mut [u32],
-    session: Session,
-    tables: &[u16; TABLE_SIZE],
-    out: &mut [u8],
-) -> Ran
-    requires { EndRoom keys.old rows.old session tables.now out.old }
+pub fn run_end(keys: &mut [u64], rows: &mut [u32], session: Session, out: &mut [u8]) -> Ran
+    requires { EndRoom keys.old rows.old session out.old }
     ensures { EndedOver keys.old rows.old session out.old
         result keys.new rows.new out.new }
 {
@@ -159,5 +149,5 @@ pub fn run_end(
         return Ran { session, len: 0 };
     }
     let newline = [b'\n'];
-    run_piece(keys, rows, session, tables, &newline, out)
+    run_piece(keys, rows, session, &newline, out)
 }

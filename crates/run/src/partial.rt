@@ -5,7 +5,7 @@ ghost use Rattle.line.specs.Calls.{read_line};
 ghost use Rattle.run.specs.Partial.{kept_length, held_line, Room};
 
 use buffer::paste;
-use line::Line;
+use line::Call;
 use parsing::{LONGEST_LINE, read_line};
 
 pub const KEPT: usize = LONGEST_LINE + 1;
@@ -48,7 +48,7 @@ pub fn extended(partial: Partial, part: &[u8]) -> Partial
 }
 
 // What the line says that ends here.
-pub fn read_held(partial: Partial) -> Line
+pub fn read_held(partial: Partial) -> Option<Call>
     requires { Room partial }
     ensures { result ≡ read_line (held_line partial) }
 {
@@ -58,7 +58,7 @@ pub fn read_held(partial: Partial) -> Line
 }
 
 // What the line says that ends behind these characters.
-pub fn read_with(partial: Partial, part: &[u8]) -> Line
+pub fn read_with(partial: Partial, part: &[u8]) -> Option<Call>
     requires { Room partial }
     ensures { result ≡ read_line (held_line partial ++ part.now) }
 {

@@ -1,5 +1,6 @@
 -- From what a call makes of keys, rows and scalars to what a line leaves of the three slices.
 -- Assumes nothing.
+use Rattle.std.specs.Prelude.{Option, Some, None}
 use mathlib.Core.Path.{◌≡◌, refl, sym, ap, ◌∙◌, subst}
 use mathlib.Core.Bool.{true, false, true≢false}
 use mathlib.Core.List.{List}
@@ -7,7 +8,7 @@ use Prim.Native.Nat.{ℕ}
 use lib.ListN.{length}
 use Rattle.def.specs.declared.EvcPoc.{EvcPoc}
 use Rattle.keys.specs.declared.Rest.{Rest}
-use Rattle.line.specs.declared.{Call.Call, Line.Line, Reply.Reply}
+use Rattle.line.specs.declared.{Call.Call, Reply.Reply}
 use Rattle.line.specs.Answers.{bad_line_reply}
 use Rattle.registers.specs.Registers.{rest_of, poc_of}
 use Rattle.machine.specs.declared.{Scalars.Scalars}
@@ -59,11 +60,11 @@ module _ {reply : Reply} {after s : Scalars} (call : Call) {keys rows keys' rows
 -- ---- any line on any slices
 
 -- What `reply_on` promises.
-abbrev pub Replied : Reply → Line → Slices → Slices → Type 0
+abbrev pub Replied : Reply → Option Call → Slices → Slices → Type 0
 Replied r line before after = (r ≡ reply_to before line) × Leaves line before after
 
 -- nothing is written
-pub same-leaves : (line : Line) (s : Slices) → (sized s ≡ true → machine_at s ≡ (step_line (machine_at s) line).machine) → Leaves line s s
+pub same-leaves : (line : Option Call) (s : Slices) → (sized s ≡ true → machine_at s ≡ (step_line (machine_at s) line).machine) → Leaves line s s
 same-leaves line s m = record {
   machine_is = m;
   other_rows = λ b kept no. refl;
@@ -73,20 +74,20 @@ same-leaves line s m = record {
   registers_long = refl;
 }
 
-pub wrong_size : (line : Line) (s : Slices) → sized s ≡ false → Replied bad_line_reply line s s
+pub wrong_size : (line : Option Call) (s : Slices) → sized s ≡ false → Replied bad_line_reply line s s
 unfolding reply_to
 wrong_size line s e = (rw e, same-leaves line s (λ t. absurd (true≢false (sym t ∙ e))))
 
-pub bad-line : (s : Slices) → sized s ≡ true → Replied bad_line_reply Line.Bad s s
+pub bad-line : (s : Slices) → sized s ≡ true → Replied bad_line_reply None s s
 unfolding reply_to
-bad-line s e = (rw e, same-leaves Line.Bad s (λ _. refl))
+bad-line s e = (rw e, same-leaves None s (λ _. refl))
 
 pub good-line : {r : Reply} {call : Call} (before after : Slices) → sized before ≡ true → CallLeaves r call before after
     → length after.keys ≡ length before.keys → length after.rows ≡ length before.rows → length after.registers ≡ length before.registers
-    → Replied r (Line.Good call) before after
+    → Replied r (Some call) before after
 unfolding reply_to
 good-line {r} {call} before after e c keys rows registers =
-    let is : r ≡ reply_to before (Line.Good call) = rw e c.replies in (
+    let is : r ≡ reply_to before (Some call) = rw e c.replies in (
       is,
       record {
         machine_is = λ _. c.machine_is;
@@ -99,5 +100,5 @@ good-line {r} {call} before after e c keys rows registers =
     )
 
 -- by what the line is
-pub by-line : {r : Reply} {line told : Line} {before after : Slices} → line ≡ told → Replied r told before after → Replied r line before after
-by-line {r} {line} {told} {before} {after} e p = subst (λ (l : Line). Replied r l before after) (sym e) p
+pub by-line : {r : Reply} {line told : Option Call} {before after : Slices} → line ≡ told → Replied r told before after → Replied r line before after
+by-line {r} {line} {told} {before} {after} e p = subst (λ (l : Option Call). Replied r l before after) (sym e) p

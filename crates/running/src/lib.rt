@@ -11,7 +11,7 @@ ghost use Rattle.running.specs.Slices.{slices, scalars_at, reply_to, CallLeaves,
 
 use checking::checked_call;
 use def::is_refusal_number;
-use line::{Call, Line, Reply, bad_line_reply};
+use line::{Call, Reply, bad_line_reply};
 use machine::Scalars;
 use sizing::is_sized;
 
@@ -42,7 +42,7 @@ fn call_on(keys: &mut [u64], rows: &mut [u32], registers: &mut [u32], call: Call
 }
 
 // Any line on any slices.
-pub fn reply_on(keys: &mut [u64], rows: &mut [u32], registers: &mut [u32], line: Line) -> Reply
+pub fn reply_on(keys: &mut [u64], rows: &mut [u32], registers: &mut [u32], line: Option<Call>) -> Reply
     ensures { let before = slices keys.old rows.old registers.old in
         let after = slices keys.new rows.new registers.new in
         (result ≡ reply_to before line) × Leaves line before after }
@@ -51,7 +51,7 @@ pub fn reply_on(keys: &mut [u64], rows: &mut [u32], registers: &mut [u32], line:
         return bad_line_reply();
     }
     match line {
-        Line::Good(call) => call_on(keys, rows, registers, call),
-        Line::Bad => bad_line_reply(),
+        Some(call) => call_on(keys, rows, registers, call),
+        None => bad_line_reply(),
     }
 }

@@ -1,13 +1,11 @@
 -- An answer line in words: `put: buffer 3, number 12`, `out: not yet`, `lists: turned down, 9, no references`.
 -- Assumes nothing.
-use Rattle.std.specs.Prelude.{ℕ, cond, not, List, [], ◌∷◌, ◌++◌, ltb, eqb, get_or}
-use Rattle.phrases.specs.Phrases.{chars, decimal}
+use Rattle.std.specs.Prelude.{ℕ, cond, not, List, [], ◌∷◌, ◌++◌, ltb, eqb, get_or, Option, Some, None}
+use Rattle.phrases.specs.Phrases.{chars, decimal, decimal_from}
 use Rattle.hex_digits.specs.Hex.{bytes_of, sum8}
 use Rattle.hex_digits.specs.Frame.{body_of, from_line}
 use Rattle.line.specs.declared.Reply.{Reply}
 use Rattle.line.specs.Answers.{answer_kind, no_buffer}
-use Rattle.answers.specs.declared.AnswerLine.{AnswerLine}
-use Rattle.answers.specs.Answers.{answer_for}
 use Rattle.wording.specs.Words.{status_word}
 use Rattle.showing.specs.Shown.{picture_words, count_words, signed_words}
 
@@ -42,10 +40,10 @@ unfoldable pub bad_line_words : ℕ → List ℕ
 bad_line_words number = chars "bad line " ++ (decimal number ++ chars ": no answer\n")
 
 -- What the program writes for a line, the characters before its newline.
-abbrev pub said_as : ℕ → AnswerLine → List ℕ
-said_as number (AnswerLine.Good r) = answer_words r
-said_as number AnswerLine.Bad = bad_line_words number
+abbrev pub said_as : ℕ → Option Reply → List ℕ
+said_as number (Some r) = answer_words r
+said_as number None = bad_line_words number
 
 unfoldable pub said_line : ℕ → List ℕ → List ℕ
 unfolding bytes_of sum8 body_of answer_kind answer_words bad_line_words
-said_line number line = said_as number (answer_for (from_line answer_kind line))
+said_line number line = said_as number (from_line answer_kind line)

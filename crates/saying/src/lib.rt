@@ -4,7 +4,7 @@
 ghost use Rattle.std.specs.Prelude.{◌≡◌, ◌≤◌, length};
 ghost use Rattle.saying.specs.Words.{call_name, turned_down, done_words, status_words, answer_words, bad_line_words, said_line};
 
-use answers::{AnswerLine, read_answer};
+use answers::read_answer;
 use line::{
     GET_EMPTY_PIC, INIT, NO_BUFFER, NO_MORE, NOT_YET, OUT_PIC, POC_DERIVATION, PUT_PIC, REFP_INIT,
     Reply,
@@ -109,7 +109,7 @@ pub fn say_line(line: &[u8], number: u64) -> Sentence
     ensures { result.bytes ≡ said_line number line.now }
 {
     match read_answer(line) {
-        AnswerLine::Good(reply) => say_answer(reply),
-        AnswerLine::Bad => bad_line_words(number),
+        AnswerSome(reply) => say_answer(reply),
+        AnswerNone => bad_line_words(number),
     }
 }

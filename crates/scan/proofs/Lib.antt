@@ -1,2 +1,1 @@
-pub mod CallsAt
-pub mod Scanning
+pub mod Standing

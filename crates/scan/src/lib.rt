@@ -1,137 +1,40 @@
-// A good call line read where it stands in a buffer, by the fixed length of its kind: no search for the newline, and no copy.
-// The public function's `requires` are met by who lends the table and has come to a place of the buffer.
+// A good call line read where it stands in a buffer, by the fixed length of its kind: no search for the newline.
+// The public function's `requires` is met by who has come to a place of the buffer.
 #![tactic(auto)]
 
 ghost use Rattle.std.specs.Prelude.{◌≡◌, ◌≤◌, length};
-ghost use Rattle.hex_digits.specs.Hex.{digit_tables};
 ghost use Rattle.line.specs.Lines.{call_at};
-ghost use Rattle.pairs.specs.Pairs.{Opened};
+ghost use Rattle.scan.specs.Kinds.{line_length};
 
-use line::{Call, LineAt};
-use lookup::TABLE_SIZE;
-use pairs::{check_at, pair_at, plus};
-use picking::{bare_at, fields_at, two_at};
+use line::Call;
+use parsing::read_line;
 
-fn init_at(tables: &[u16; TABLE_SIZE], buffer: &[u8], at: usize) -> LineAt
-    requires { (tables.now ≡ digit_tables) × Opened buffer.now at 1 × (at ≤ length buffer.now) }
-    ensures { result ≡ call_at buffer.now at }
+// How many digits the line of a kind has, by the second digit of its call byte; none is of another kind.
+fn line_length(kind: u8) -> Option<usize>
+    ensures { result ≡ line_length kind }
 {
-    let t = two_at(tables, buffer, at, 1);
-    if t.good {
-        return LineAt::Good(
-            Call::Init {
-                max_pb_size: t.byte1,
-                max_num_ref_pics: t.byte2,
-            },
-            at + 9,
-        );
+    match kind {
+        b'2' | b'4' => Some(4),
+        b'1' | b'6' => Some(8),
+        b'3' => Some(24),
+        b'5' => Some(26),
+        _ => None,
     }
-    LineAt::Other
 }
 
-fn derive_at(tables: &[u16; TABLE_SIZE], buffer: &[u8], at: usize) -> LineAt
-    requires { (tables.now ≡ digit_tables) × Opened buffer.now at 6 × (at ≤ length buffer.now) }
+/// The good line that starts at a place and ends with its newline inside the buffer, and the place behind it.
+pub fn read_line_at(buffer: &[u8], at: usize) -> Option<(Call, usize)>
+    requires { at ≤ length buffer.now }
     ensures { result ≡ call_at buffer.now at }
 {
-    let t = two_at(tables, buffer, at, 6);
-    if t.good {
-        return LineAt::Good(
-            Call::PocDerivation {
-                log2_sub_gop_length: t.byte1,
-                tid: t.byte2,
-            },
-            at + 9,
-        );
+    let rest = &buffer[at..];
+    let [b'0', kind, ..] = *rest else {
+        return None;
+    };
+    let end = line_length(kind)?;
+    if rest.len() <= end || rest[end] != b'\n' {
+        return None;
     }
-    LineAt::Other
-}
-
-fn get_at(tables: &[u16; TABLE_SIZE], buffer: &[u8], at: usize) -> LineAt
-    requires { (tables.now ≡ digit_tables) × Opened buffer.now at 2 × (at ≤ length buffer.now) }
-    ensures { result ≡ call_at buffer.now at }
-{
-    if bare_at(tables, buffer, at, 2) {
-        return LineAt::Good(Call::GetEmptyPic, at + 5);
-    }
-    LineAt::Other
-}
-
-fn out_at(tables: &[u16; TABLE_SIZE], buffer: &[u8], at: usize) -> LineAt
-    requires { (tables.now ≡ digit_tables) × Opened buffer.now at 4 × (at ≤ length buffer.now) }
-    ensures { result ≡ call_at buffer.now at }
-{
-    if bare_at(tables, buffer, at, 4) {
-        return LineAt::Good(Call::OutPic, at + 5);
-    }
-    LineAt::Other
-}
-
-fn put_at(tables: &[u16; TABLE_SIZE], buffer: &[u8], at: usize) -> LineAt
-    requires { (tables.now ≡ digit_tables) × Opened buffer.now at 3 × (at ≤ length buffer.now) }
-    ensures { result ≡ call_at buffer.now at }
-{
-    if buffer.len() - at < 25 {
-        return LineAt::Other;
-    }
-    let f = fields_at(tables, buffer, at, 3);
-    if check_at(tables, buffer, at + 22, f.sum, f.good) & !(15 < f.lead) {
-        return LineAt::Good(
-            Call::PutPic {
-                flags: f.lead,
-                poc: f.poc,
-                temporal_id: f.layer,
-                ref_pic_gap_length: f.span,
-            },
-            at + 25,
-        );
-    }
-    LineAt::Other
-}
-
-fn lists_at(tables: &[u16; TABLE_SIZE], buffer: &[u8], at: usize) -> LineAt
-    requires { (tables.now ≡ digit_tables) × Opened buffer.now at 5 × (at ≤ length buffer.now) }
-    ensures { result ≡ call_at buffer.now at }
-{
-    if buffer.len() - at < 27 {
-        return LineAt::Other;
-    }
-    let f = fields_at(tables, buffer, at, 5);
-    let limit = pair_at(tables, buffer, at + 22);
-    let sum = plus(f.sum, limit.byte);
-    if check_at(tables, buffer, at + 24, sum, f.good & limit.good) {
-        return LineAt::Good(
-            Call::RefpInit {
-                slice_type: f.lead,
-                poc: f.poc,
-                layer_id: f.layer,
-                last_intra: f.span,
-                max_num_ref_pics: limit.byte,
-            },
-            at + 27,
-        );
-    }
-    LineAt::Other
-}
-
-// The good line that starts at a place and ends with its newline inside the buffer.
-pub fn read_line_at(tables: &[u16; TABLE_SIZE], buffer: &[u8], at: usize) -> LineAt
-    requires { (tables.now ≡ digit_tables) × (at ≤ length buffer.now) }
-    ensures { result ≡ call_at buffer.now at }
-{
-    if buffer.len() - at < 2 {
-        return LineAt::Other;
-    }
-    if buffer[at] != b'0' {
-        return LineAt::Other;
-    }
-    let call = buffer[at + 1];
-    match call {
-        b'1' => init_at(tables, buffer, at),
-        b'2' => get_at(tables, buffer, at),
-        b'3' => put_at(tables, buffer, at),
-        b'4' => out_at(tables, buffer, at),
-        b'5' => lists_at(tables, buffer, at),
-        b'6' => derive_at(tables, buffer, at),
-        _ => LineAt::Other,
-    }
+    let call = read_line(&rest[..end])?;
+    Some((call, at + end + 1))
 }

@@ -12,7 +12,6 @@ ghost use Rattle.service.specs.Served.{ServedNew};
 
 use conversation::{Stop, Teller, converse};
 use keys::{ROWS, SLOTS};
-use lookup::{TABLE_SIZE, digit_tables};
 use run::{Session, new_session, run_end, run_piece};
 use std::io::{self, Read, Write};
 use std::marker::Model;
@@ -23,14 +22,13 @@ const PIECE: usize = 16384;
 // Room for an answer to each byte of a piece, since each may be a newline.
 const ANSWERS: usize = PIECE * 17;
 
-// A run over the input: its machine as the lent arrays and the session, the digit tables, and the answers to the last piece, `len` bytes at
+// A run over the input: its machine as the lent arrays and the session, and the answers to the last piece, `len` bytes at
 // the front of `out`.
 #[derive(Drop)]
 pub struct CallTeller {
     keys: [u64; SLOTS],
     rows: [u32; ROWS],
     session: Session,
-    tables: [u16; TABLE_SIZE],
     out: [u8; ANSWERS],
     len: usize,
 }
@@ -38,7 +36,6 @@ pub struct CallTeller {
 // The run, and what its last piece wrote.
 impl Model for CallTeller {
     ghost use Rattle.std.specs.Prelude.{◌≡◌, ◌≤◌, length, take};
-    ghost use Rattle.hex_digits.specs.Hex.{digit_tables};
     ghost use Rattle.run.specs.Run.{Fed};
     ghost use Rattle.run.specs.Session.{runner_in, SoundSession};
 
@@ -46,7 +43,7 @@ impl Model for CallTeller {
 
     ghost view = { λ c. record { runner = runner_in c.keys c.rows c.session; written = take c.len c.out } };
 
-    ghost invariant = { λ c. SoundSession c.keys c.rows c.session × (c.tables ≡ digit_tables) × (c.len ≤ length c.out) };
+    ghost invariant = { λ c. SoundSession c.keys c.rows c.session × (c.len ≤ length c.out) };
 }
 
 impl CallTeller {
@@ -58,7 +55,6 @@ impl CallTeller {
             keys: [0; SLOTS],
             rows: [0; ROWS],
             session: new_session(),
-            tables: digit_tables(),
             out: [0; ANSWERS],
             len: 0,
         }
@@ -93,7 +89,6 @@ impl Teller for CallTeller {
             &mut self.keys,
             &mut self.rows,
             self.session,
-            &self.tables,
             piece,
             &mut self.out,
         );
@@ -103,13 +98,7 @@ impl Teller for CallTeller {
 
     // A last line that lacks its newline is answered as if it had one.
     fn end(&mut self) {
-        let last = run_end(
-            &mut self.keys,
-            &mut self.rows,
-            self.session,
-            &self.tables,
-            &mut self.out,
-        );
+        let last = run_end(&mut self.keys, &mut self.rows, self.session, &mut self.out);
         self.session = last.session;
         self.len = last.len;
     }

@@ -1,5 +1,6 @@
 -- What a call leaves of the slices of a machine taken apart is what the definition makes of the machine.
 -- Assumes nothing.
+use Rattle.std.specs.Prelude.{Some}
 use mathlib.Core.Path.{◌≡◌, refl, sym, ap, ◌∙◌}
 use mathlib.Core.Bool.{Bool, true, false, true≢false}
 use mathlib.Core.List.{List}
@@ -13,7 +14,7 @@ use Rattle.def.specs.declared.Refusal.TheVariants.{StateNotWhole}
 use Rattle.keys.specs.Keys.{slot_at, Sized}
 use Rattle.registers.specs.Registers.{registers_length, rest_of, poc_of}
 use Rattle.whole.specs.Whole.{whole}
-use Rattle.line.specs.declared.{Call.Call, Line.Line, Reply.Reply}
+use Rattle.line.specs.declared.{Call.Call, Reply.Reply}
 use Rattle.line.specs.declared.Call.TheVariants.{Init, GetEmptyPic, PutPic, OutPic, RefpInit, PocDerivation}
 use Rattle.line.specs.Answers.{reply_of}
 use Rattle.machine.specs.declared.{Machine.Machine, Stepped.Stepped, Scalars.Scalars}
@@ -56,7 +57,7 @@ pub record Came (reply : Reply) (after : Scalars) (keys' rows' : List ℕ) (want
 pub call-came : {reply : Reply} {call : Call} {s : Scalars} {keys rows registers : List ℕ} {after : Slices}
     → Sized keys rows → length registers ≡ registers_length
     → (rest_of registers ≡ s.rest) × (poc_of registers ≡ s.poc)
-    → (reply ≡ reply_to (slices keys rows registers) (Line.Good call)) × Leaves (Line.Good call) (slices keys rows registers) after
+    → (reply ≡ reply_to (slices keys rows registers) (Some call)) × Leaves (Some call) (slices keys rows registers) after
     → Came reply (scalars_at after.registers) after.keys after.rows (step (machine_in keys rows s) call)
 unfolding reply_to step_line
 call-came {reply} {call} {s} {keys} {rows} {registers} {after} long thirteen held (is, leaves) =

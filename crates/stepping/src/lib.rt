@@ -7,7 +7,7 @@ ghost use Rattle.machine.specs.Step.{step};
 
 use def::is_refusal_number;
 use keys::{ROWS, SLOTS};
-use line::{Call, Line};
+use line::Call;
 use machine::{Machine, Stepped};
 use making::reads_state;
 use parting::{put_machine, take_machine};
@@ -25,7 +25,7 @@ pub fn step(m: Machine, call: Call) -> Stepped
     let rest = before.rest;
     let poc = before.poc;
     store(&mut registers, rest, poc);
-    let reply = reply_on(&mut keys, &mut rows, &mut registers, Line::Good(call));
+    let reply = reply_on(&mut keys, &mut rows, &mut registers, Some(call));
     if is_refusal_number(reply.status) {
         return Stepped { reply, machine: m };
     }

@@ -1,5 +1,6 @@
 -- The claims about the writer, proved.
 -- Assumes nothing.
+use Rattle.std.specs.Prelude.{Some, Ok, Err, is_some}
 use Prim.Native.Nat.{ℕ, ◌+◌, ◌<◌, ◌≤◌}
 use native.Mathlib.Omega.{arith}
 use mathlib.Core.Path.{◌≡◌, refl, sym, ap, ◌∙◌}
@@ -12,19 +13,16 @@ use borrow.Author.Tests.{lt-ltb, le-ltb}
 use Rattle.seq.specs.Lists.{lowest}
 use Rattle.def.specs.declared.Refusal.{Refusal}
 use Rattle.line.specs.declared.Call.{Call}
-use Rattle.line.specs.declared.LineAt.{LineAt}
-use Rattle.line.specs.declared.Line.TheVariants.{Good}
 use Rattle.hex_digits.specs.Hex.{digits_of, sum8}
 use Rattle.hex_digits.specs.Frame.{framed}
-use Rattle.line.specs.Calls.{call_bytes, call_in, call_kind, line_for, read_line}
+use Rattle.line.specs.Calls.{call_bytes, call_in, call_kind, read_line}
 use Rattle.buffer.specs.Buffer.{newline, is_newline}
 use Rattle.framing.specs.Framing.{whole_of, line_size}
 use Rattle.framing.proofs.Standing.{framed-end, framed-size}
 use Rattle.line.specs.Lines.{call_at}
 use Rattle.line.specs.Claims.{CallFits}
 use Rattle.line.proofs.Bodies.{calls-lawful, calls-faithful}
-use Rattle.writer.specs.declared.Written.{Written}
-use Rattle.writer.specs.Writing.{WrittenOut, written_out, is_some, is_call_body, written}
+use Rattle.writer.specs.Writing.{WrittenOut, written_out, is_call_body, written}
 use Rattle.writer.specs.Claims.{WrittenIsRead, NoRoomIsTwenty, FlagsBeforeRoom, RefusedUnwritten, GetIntoSix, GetIntoFour}
 
 is-call : (call : Call) → CallFits call → is_call_body (call_bytes call) ≡ true
@@ -54,20 +52,20 @@ refused-unwritten fields target why e = by (is_call_body fields) (ltb (length ta
     left : Bool → Bool → WrittenOut
     left a b =
         cond a
-        (cond b (written_out (Written.Refused Refusal.NoRoom) target)
-        (written_out (Written.Line (line_size fields)) (paste target 0 (whole_of fields) (line_size fields))))
-        (written_out (Written.Refused Refusal.BadLine) target)
+        (cond b (written_out (Err Refusal.NoRoom) target)
+        (written_out (Ok (line_size fields)) (paste target 0 (whole_of fields) (line_size fields))))
+        (written_out (Err Refusal.BadLine) target)
 
-    by : (a b : Bool) → (left a b).given ≡ Written.Refused why → (left a b).target ≡ target
+    by : (a b : Bool) → (left a b).given ≡ Err why → (left a b).target ≡ target
     by false b e = refl
     by true true e = refl
     by true false e = absurd (let z : ◌≡◌ {A = ℕ} 0 1 = cc in omega arith)
 
-reads : (call : Call) → CallFits call → read_line (framed (call_bytes call)) ≡ Good call
+reads : (call : Call) → CallFits call → read_line (framed (call_bytes call)) ≡ Some call
 unfolding read_line call_kind
-reads call f = ap line_for (calls-faithful.reads_back call f)
+reads call f = calls-faithful.reads_back call f
 
-at_front : (call : Call) (rest : List ℕ) → CallFits call → call_at (framed (call_bytes call) ++ (newline ∷ rest)) 0 ≡ LineAt.Good call (line_size (call_bytes call))
+at_front : (call : Call) (rest : List ℕ) → CallFits call → call_at (framed (call_bytes call) ++ (newline ∷ rest)) 0 ≡ Some (call, line_size (call_bytes call))
 unfolding call_at
 at_front call rest f =
     let body = call_bytes call in
@@ -98,7 +96,7 @@ pub written-is-read : WrittenIsRead
 unfolding written
 written-is-read call target f h =
     let body = call_bytes call in
-    let all : written body target ≡ written_out (Written.Line (line_size body)) (paste target 0 (whole_of body) (line_size body)) =
+    let all : written body target ≡ written_out (Ok (line_size body)) (paste target 0 (whole_of body) (line_size body)) =
     rw (is-call call f, le-ltb (length target) (line_size body) h) in
     record {
       given = rw all;

@@ -3,127 +3,67 @@
 
 ghost use Rattle.std.specs.Prelude.{◌≡◌};
 ghost use Rattle.line.specs.Calls.{call_bytes};
-ghost use Rattle.writer.specs.Writing.{is_call_body, short_body, long_body, HoldsBody, written, written_out};
+ghost use Rattle.writer.specs.Writing.{written, written_out};
 
 use def::Refusal;
 use framing::write_framed;
-use line::{Call, GET_EMPTY_PIC, INIT, Line, OUT_PIC, POC_DERIVATION, PUT_PIC, REFP_INIT};
+use line::{Call, GET_EMPTY_PIC, INIT, OUT_PIC, POC_DERIVATION, PUT_PIC, REFP_INIT};
 use parsing::call_in;
 
-const LONGEST_BODY: usize = 12;
-
-// The length of the line that was written, its newline counted; or why none was, and then no byte of the buffer has changed.
-#[derive(Clone, Copy)]
-pub enum Written {
-    Line(usize),
-    Refused(Refusal),
-}
-
-fn is_call_body(fields: &[u8]) -> bool
-    ensures { result ≡ is_call_body fields.now }
-{
-    match call_in(fields) {
-        Line::Good(_) => true,
-        Line::Bad => false,
-    }
-}
-
-// The line of a call whose call byte and fields these are.
+/// The line of a call whose call byte and fields these are. Gives the length of the line, its newline counted; or why none was written, and
+/// then no byte of the buffer has changed.
 #[tactic(auto, unfolding(crate::specs::Writing::written))]
-pub fn write_fields(fields: &[u8], target: &mut [u8]) -> Written
+pub fn write_fields(fields: &[u8], target: &mut [u8]) -> Result<usize, Refusal>
     ensures { written_out result target.new ≡ written fields.now target.old }
 {
-    if !is_call_body(fields) {
-        return Written::Refused(Refusal::BadLine);
+    if call_in(fields).is_none() {
+        return Err(Refusal::BadLine);
     }
     if target.len() < 2 * fields.len() + 3 {
-        return Written::Refused(Refusal::NoRoom);
+        return Err(Refusal::NoRoom);
     }
-    Written::Line(write_framed(target, fields))
+    Ok(write_framed(target, fields))
 }
 
-// The bytes of a call without its check byte, and how many they are.
-#[derive(Clone, Copy)]
-pub struct Body {
-    pub bytes: [u8; LONGEST_BODY],
-    pub len: usize,
-}
-
-fn short_body(call: u8, first: u8, second: u8, len: usize) -> Body
-    ensures { result ≡ short_body call first second len }
-{
-    Body {
-        bytes: [call, first, second, 0, 0, 0, 0, 0, 0, 0, 0, 0],
-        len,
-    }
-}
-
-fn long_body(call: u8, first: u8, poc: u32, second: u8, word: u32, last: u8, len: usize) -> Body
-    ensures { result ≡ long_body call first poc second word last len }
-{
-    Body {
-        bytes: [
-            call,
-            first,
-            (poc / 16_777_216 % 256) as u8,
-            (poc / 65_536 % 256) as u8,
-            (poc / 256 % 256) as u8,
-            (poc % 256) as u8,
-            second,
-            (word / 16_777_216 % 256) as u8,
-            (word / 65_536 % 256) as u8,
-            (word / 256 % 256) as u8,
-            (word % 256) as u8,
-            last,
-        ],
-        len,
-    }
-}
-
-fn body_of(call: Call) -> Body
-    ensures { HoldsBody result call }
+/// The line of a call, as `write_fields` writes it.
+pub fn write_call(call: Call, target: &mut [u8]) -> Result<usize, Refusal>
+    ensures { written_out result target.new ≡ written (call_bytes call) target.old }
 {
     match call {
         Call::Init {
             max_pb_size,
             max_num_ref_pics,
-        } => short_body(INIT, max_pb_size, max_num_ref_pics, 3),
-        Call::GetEmptyPic => short_body(GET_EMPTY_PIC, 0, 0, 1),
+        } => write_fields(&[INIT, max_pb_size, max_num_ref_pics], target),
+        Call::GetEmptyPic => write_fields(&[GET_EMPTY_PIC], target),
         Call::PutPic {
             flags,
             poc,
             temporal_id,
             ref_pic_gap_length,
-        } => long_body(PUT_PIC, flags, poc, temporal_id, ref_pic_gap_length, 0, 11),
-        Call::OutPic => short_body(OUT_PIC, 0, 0, 1),
+        } => {
+            let [p0, p1, p2, p3] = poc.to_be_bytes();
+            let [g0, g1, g2, g3] = ref_pic_gap_length.to_be_bytes();
+            let fields = [PUT_PIC, flags, p0, p1, p2, p3, temporal_id, g0, g1, g2, g3];
+            write_fields(&fields, target)
+        }
+        Call::OutPic => write_fields(&[OUT_PIC], target),
         Call::RefpInit {
             slice_type,
             poc,
             layer_id,
             last_intra,
-            max_num_ref_pics,
-        } => long_body(
-            REFP_INIT,
-            slice_type,
-            poc,
-            layer_id,
-            last_intra,
-            max_num_ref_pics,
-            12,
-        ),
+            max_num_ref_pics: limit,
+        } => {
+            let [p0, p1, p2, p3] = poc.to_be_bytes();
+            let [i0, i1, i2, i3] = last_intra.to_be_bytes();
+            let fields = [
+                REFP_INIT, slice_type, p0, p1, p2, p3, layer_id, i0, i1, i2, i3, limit,
+            ];
+            write_fields(&fields, target)
+        }
         Call::PocDerivation {
             log2_sub_gop_length,
             tid,
-        } => short_body(POC_DERIVATION, log2_sub_gop_length, tid, 3),
+        } => write_fields(&[POC_DERIVATION, log2_sub_gop_length, tid], target),
     }
-}
-
-// The line of a call.
-pub fn write_call(call: Call, target: &mut [u8]) -> Written
-    ensures { written_out result target.new ≡ written (call_bytes call) target.old }
-{
-    let body = body_of(call);
-    let bytes = body.bytes;
-    let len = body.len;
-    write_fields(&bytes[..len], target)
 }

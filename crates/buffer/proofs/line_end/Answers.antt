@@ -1,27 +1,17 @@
--- `buffer::line_end` meets its contract: from the place come to, the first newline is where it is from the start.
--- Assumes nothing.
-use native.Mathlib.Omega.{arith}
-use mathlib.Core.Path.{sym, ◌∙◌}
-use lib.ListN.{get_or}
-use borrow.Author.Tests.{eq-eqb, ne_eqb}
-use Rattle.seq.proofs.Walks.{lowest-hit, lowest-miss, lowest-end}
+-- `buffer::line_end` meets its contract. Assumes nothing.
+use Rattle.std.proofs.Common.{◌≡◌, ℕ, ◌+◌, ◌-◌, List, drop, length, sym, ap, ◌∙◌, arith}
+use lib.ListN.{length-drop}
 use Rattle.buffer.specs.Buffer.{is_newline}
+use Rattle.buffer.proofs.Newlines.{first-at, none-there, rest-is}
 use Rattle.buffer.proofs.line_end.Goals as goal
 
-pub returns-then-buffer-i-eq10 : goal.returns-then-buffer-i-eq10
-returns-then-buffer-i-eq10 c =
-    let l = c.loop-i in
-    let buffer = c.args.buffer.now in
-    sym (lowest-hit 0 is_newline buffer l.i c.loop-i-test.true (eq-eqb (get_or buffer l.i 0) 10 c.if-buffer-i-eq10.true)) ∙ l.invariant.1
+pub returns-in-Some : goal.returns-in-Some
+returns-in-Some c =
+    let rest = rest-is c.args.buffer.now c.args.from in
+    ap (λ n. c.args.from + n) (sym (first-at is_newline (drop c.args.from c.args.buffer.now) c.in-Some.n (rw rest at (sym c.newline_in.ensures ∙ c.in-Some.is))))
 
-pub loop-i-preserved : goal.loop-i-preserved
-loop-i-preserved c =
-    let l = c.loop-i in
-    let buffer = c.args.buffer.now in
-    (omega arith, lowest-miss 0 is_newline buffer l.i c.loop-i-test.true (ne_eqb (get_or buffer l.i 0) 10 c.if-buffer-i-eq10.false) ∙ l.invariant.1)
-
-pub returns : goal.returns
-returns c =
-    let l = c.loop-i in
-    let buffer = c.args.buffer.now in
-    sym (lowest-end 0 is_newline buffer l.i c.loop-i-test.false) ∙ l.invariant.1
+pub returns-in-None : goal.returns-in-None
+returns-in-None c =
+    let rest = rest-is c.args.buffer.now c.args.from in
+    let end = none-there is_newline (drop c.args.from c.args.buffer.now) (rw rest at (sym c.newline_in.ensures ∙ c.in-None.is)) in
+    omega (arith, length-drop c.args.from c.args.buffer.now)

@@ -1,39 +1,43 @@
 -- `decoding::decode` meets its contract: what one more pair of digits adds. Assumes nothing.
-use Rattle.std.proofs.Common.{◌≡◌, ◌+◌, ◌*◌, ◌/◌, ◌<◌, [], length, drop, sym, ◌∙◌, arith}
+use Rattle.std.proofs.Common.{◌≡◌, ◌+◌, ◌*◌, ◌<◌, [], length, drop, false, rules, sym, ◌∙◌, arith}
 use mathlib.Core.List.{append-nil}
 use lib.ListN.{length-set, drop_of_length-le}
+use lib.Seq.{take_all}
 use Rattle.seq.specs.Lists.{all_of}
-use Rattle.hex_digits.specs.Hex.{bytes_of}
+use Rattle.hex_digits.specs.Hex.{is_digit, bytes_of}
 use Rattle.hex_digits.proofs.HexLaws.{both}
-use Rattle.hex_digits.proofs.Pairs.{not-hex, pair-hex, pair-bytes}
+use Rattle.hex_digits.proofs.Pairs.{not-hex, digits-pass, pair-bytes}
+use Rattle.hex_digits.proofs.Tested.{test-failed, test-passed}
 use Rattle.decoding.proofs.decode.Goals as goal
 
-pub returns-then-not-is_digit-clause-hex : goal.returns-then-not-is_digit-clause-hex
-returns-then-not-is_digit-clause-hex c =
-    let e = c.if-not-is_digit.true in
-    sym (not-hex c.args.digits.now c.loop-i.i (omega arith) (rw (← c.is_digit.ensures, ← c.is_digit-in-loop-i.ensures) e)) ∙ c.loop-i.invariant.2
+pub returns-in_err-bytes : goal.returns-in_err-bytes
+returns-in_err-bytes g c =
+    let l = c.loop-i in
+    let digits = c.args.digits.now in
+    let no = test-failed _ _ (sym c.pair_value.ensures ∙ c.in_err-bytes.was) in
+    let some_other : all_of is_digit digits ≡ false = sym l.invariant.hex ∙ not-hex digits l.i (omega arith) no in
+    rw some_other (search rules)
 
 pub loop-i-preserved : goal.loop-i-preserved
-loop-i-preserved c =
+loop-i-preserved g c =
     let l = c.loop-i in
     let digits = c.args.digits.now in
     let h : 2 * l.i + 1 < length digits = omega arith in
-    let k : l.i < length l.bytes = omega arith in
-    let two = both _ _ c.if-not-is_digit.false in (
-      omega arith,
-      length-set l.bytes l.i _ ∙ l.invariant.1,
-      sym (pair-hex digits l.i h ∙ simp (sym c.is_digit.ensures ∙ two.0, sym c.is_digit-in-loop-i.ensures ∙ two.1)) ∙ l.invariant.2,
-      pair-bytes digits l.bytes l.i _ h k c.pair_value.ensures ∙ l.invariant.3,
-    )
+    let yes = test-passed _ _ c.in_ok-bytes.field-0 (sym c.pair_value.ensures ∙ c.in_ok-bytes.was) in
+    let two = both _ _ yes.0 in
+    record {
+      within = omega arith;
+      wide = length-set l.bytes l.i _ ∙ l.invariant.wide;
+      hex = digits-pass digits l.i h two.0 two.1 ∙ l.invariant.hex;
+      bytes = pair-bytes digits l.bytes l.i _ h (omega arith) yes.1 ∙ l.invariant.bytes;
+    }
 
 pub returns : goal.returns
 unfolding all_of bytes_of
-returns c =
+returns g c =
     let l = c.loop-i in
     let digits = c.args.digits.now in
-    let i : l.i ≡ length digits / 2 = omega arith in
     let none : drop (2 * l.i) digits ≡ [] = drop_of_length-le digits {i = 2 * l.i} (omega arith) in
-    record {
-      hex = rw none at l.invariant.2;
-      bytes = λ f. rw (← i) (rw (none, append-nil) at l.invariant.3);
-    }
+    let hex = rw none at l.invariant.hex in
+    let bytes = rw (none, append-nil, take_all l.i l.bytes (omega arith)) at l.invariant.bytes in
+    rw (← hex, ← bytes)

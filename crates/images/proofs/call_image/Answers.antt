@@ -1,5 +1,6 @@
 -- `images::call_image` meets its contract: each way out knows which test failed, or what the bytes of the call are.
 -- Assumes nothing.
+use Rattle.std.specs.Prelude.{Option}
 use mathlib.Core.Path.{◌≡◌, refl, sym, subst, ◌∙◌}
 use mathlib.Core.Bool.{true, true≢false}
 use mathlib.Core.List.{List}
@@ -7,7 +8,7 @@ use Prim.Native.Nat.{ℕ}
 use native.Mathlib.Omega.{arith}
 use lib.ListN.{length}
 use borrow.Author.Tests.{eq-eqb, ne_eqb}
-use Rattle.line.specs.declared.Line.{Line}
+use Rattle.line.specs.declared.Call.{Call}
 use Rattle.line.specs.Calls.{call_from}
 use Rattle.image.specs.Image.{Bytes, is_image}
 use Rattle.machine.specs.declared.Machine.{Machine}
@@ -20,15 +21,15 @@ use Rattle.images.proofs.TurnedDown.{answered-kept, call_kept}
 use Rattle.images.proofs.call_image.Goals as goal
 
 -- where both tests are passed
-called-line : (image call answer : List ℕ) (l : Line) → is_image image ≡ true → length answer ≡ answer_length → call_from call ≡ l
+called-line : (image call answer : List ℕ) (l : Option Call) → is_image image ≡ true → length answer ≡ answer_length → call_from call ≡ l
     → called image call answer ≡ answer_to image l
 unfolding called
 called-line image call answer l e f g = rw (e, eq-eqb (length answer) answer_length f, g)
 
 -- what the image holds, by what the call is
-holds-line : (m : Machine) (call : List ℕ) {bs : List ℕ} {l : Line} → call_from call ≡ l
+holds-line : (m : Machine) (call : List ℕ) {bs : List ℕ} {l : Option Call} → call_from call ≡ l
     → ImageHolds bs (step_line m l).machine → ImageHolds bs (step_line m (call_from call)).machine
-holds-line m call {bs} e h = subst (λ (k : Line). ImageHolds bs (step_line m k).machine) (sym e) h
+holds-line m call {bs} e h = subst (λ (k : Option Call). ImageHolds bs (step_line m k).machine) (sym e) h
 
 answers : {r : ℕ} {image call answer image' answer' : List ℕ} → Bytes image → answered r image' answer' ≡ called image call answer
     → (is_image image ≡ true → length answer ≡ answer_length → ImageHolds image' (step_line (machine_of image) (call_from call)).machine)
@@ -51,18 +52,18 @@ pub answer_good-requires : goal.answer_good-requires
 answer_good-requires c =
     (image-long _ (sym c.is_image.ensures ∙ c.if-not-is_image.false), c.if-answer-ne-ANSWER_LENGTH.false)
 
-pub returns-in-Good : goal.returns-in-Good
+pub returns-in-Some : goal.returns-in-Some
 unfolding step_line
-returns-in-Good c =
-    let e = sym c.read_call.ensures ∙ c.in-Good.is in
+returns-in-Some c =
+    let e = sym c.read_call.ensures ∙ c.in-Some.is in
     answers (record { each = λ i. omega (arith, c.slice_known-1.given i) })
     (c.answer_good.ensures.given ∙ sym (called-line _ _ _ _ (sym c.is_image.ensures ∙ c.if-not-is_image.false) c.if-answer-ne-ANSWER_LENGTH.false e))
     (λ _ _. holds-line _ _ e c.answer_good.ensures.holds)
 
-pub returns-in-Bad : goal.returns-in-Bad
+pub returns-in-None : goal.returns-in-None
 unfolding step_line
-returns-in-Bad c =
-    let e = sym c.read_call.ensures ∙ c.in-Bad.is in
+returns-in-None c =
+    let e = sym c.read_call.ensures ∙ c.in-None.is in
     answers (record { each = λ i. omega (arith, c.slice_known-1.given i) })
     (rw (c.answer_bad.ensures.0, c.answer_bad.ensures.1) (sym (called-line _ _ _ _ (sym c.is_image.ensures ∙ c.if-not-is_image.false) c.if-answer-ne-ANSWER_LENGTH.false e)))
     (λ f _. holds-line _ _ e (record { image = f; machine = refl }))

@@ -1,21 +1,7 @@
--- `parsing::read_line` meets its contract: a line that is too long or not framed is Bad, and of any other the body is read as a call.
--- Assumes nothing.
-use Rattle.std.proofs.Common.{ℕ, List, sym, ap, ◌∙◌, refl}
-use Rattle.framing.proofs.Framed.{body-at-front}
-use Rattle.line.specs.Calls.{call_in, line_for}
-use Rattle.line.proofs.CallLaws.{too_long}
-use Rattle.line.proofs.Reading.{not-framed, framed-line}
+-- `parsing::read_line` meets its contract. Assumes nothing.
+use Rattle.std.proofs.Common.{sym, arith}
+use Rattle.line.proofs.CallLaws.{other-line}
 use Rattle.parsing.proofs.read_line.Goals as goal
 
-pub returns-then-digits-gt-LONGEST_LINE : goal.returns-then-digits-gt-LONGEST_LINE
-returns-then-digits-gt-LONGEST_LINE c = sym (too_long _ c.if-digits-gt-LONGEST_LINE.true)
-
-pub returns-then-not-read_framed : goal.returns-then-not-read_framed
-returns-then-not-read_framed c = sym (not-framed _ (sym c.if-not-read_framed.ensures.framed))
-
-pub returns : goal.returns
-returns c =
-    let framed = c.if-not-read_framed.ensures in
-    c.call_in.ensures
-    ∙ ap (λ (b : List ℕ). line_for (call_in b)) (body-at-front _ _ (framed.bytes refl))
-    ∙ sym (framed-line _ (sym framed.framed))
+pub returns-in_default : goal.returns-in_default
+returns-in_default c = sym (other-line c.args.digits.now (λ e. omega arith) (λ e. omega arith) (λ e. omega arith) (λ e. omega arith))

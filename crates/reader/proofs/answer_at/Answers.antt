@@ -9,8 +9,9 @@ use Rattle.seq.proofs.Walks.{lowest-le}
 use Rattle.hex_digits.specs.Frame.{from_line}
 use Rattle.buffer.specs.Buffer.{is_newline}
 use Rattle.line.specs.Answers.{answer_kind}
-use Rattle.answers.specs.Answers.{answer_for}
-use Rattle.reader.specs.Reading.{read_for, answer_at}
+use Rattle.std.specs.Prelude.{Option, Some, ok_or}
+use Rattle.line.specs.declared.Reply.{Reply}
+use Rattle.reader.specs.Reading.{bad_line, answer_at}
 use Rattle.reader.proofs.answer_at.Goals as goal
 
 pub returns-then-lines-at : goal.returns-then-lines-at
@@ -31,6 +32,6 @@ returns c =
     let at = s.args.at in
     let rest = drop at s.args.lines.now in
     let size : found.line_end-end.result - at ≡ lowest is_newline rest = omega (arith, found.line_end-end.ensures) in
-    c.read_of.ensures
-    ∙ ap (read_for at) (c.read_answer.ensures ∙ ap (λ (n : ℕ). answer_for (from_line answer_kind (take n rest))) size)
+    let line = c.read_answer.ensures ∙ ap (λ (n : ℕ). from_line answer_kind (take n rest)) size in
+    ap Some (c.ok_or.ensures.value ∙ ap (λ (o : Option Reply). ok_or o (bad_line at)) line)
     ∙ sym (rw (lt-ltb _ _ found.if-lines-at.false))

@@ -9,4 +9,4 @@ use Rattle.run.proofs.next_line.Goals as goal
 pub returns : goal.returns
 returns c =
     let none_kept : c.args.partial.len ≡ 0 = search rules in
-    next-found (sym c.read_line_at-found.ensures ∙ c.in-Good.is) (ap (λ (n : ℕ). take n c.args.partial.bytes) none_kept)
+    next-found (sym c.read_line_at-found.ensures ∙ c.in-Some.is) (ap (λ (n : ℕ). take n c.args.partial.bytes) none_kept)

@@ -1,7 +1,6 @@
 use Prim.Native.Nat.{◌-◌}
 use mathlib.Core.Path.{◌≡◌}
 use lib.ListN.{length}
-use Rattle.hex_digits.specs.Hex.{digit_tables}
 use Rattle.machine.specs.Running.{machine_in, Runs}
 use Rattle.run.specs.Partial.{held_line, Room}
 use Rattle.run.specs.Session.{NextIs}
@@ -14,7 +13,6 @@ invariant-loop-found l =
     Going (runner_of (machine_in l.initial.keys l.initial.rows l.initial.scalars) (held_line l.initial.partial)) l.piece l.initial.out (machine_in l.keys l.rows l.scalars) (held_line l.partial) l.at l.len l.out
     × Runs l.keys l.rows l.scalars
     × Room l.partial
-    × (l.tables ≡ digit_tables)
     × NextIs l.found (held_line l.partial) l.piece l.at
 
 abbrev pub decreases-loop-found : goal.decreases-loop-found

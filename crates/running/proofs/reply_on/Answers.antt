@@ -14,10 +14,10 @@ pub call_on-requires : goal.call_on-requires
 call_on-requires c =
     sized-long (slices c.args.keys.now c.args.rows.now c.args.registers.now) (sym c.is_sized.ensures ∙ c.if-not-is_sized.false)
 
-pub returns-in-Good : goal.returns-in-Good
-returns-in-Good c =
-    by-line c.in-Good.is (good-line (slices c.args.keys.now c.args.rows.now c.args.registers.now) _ (sym c.is_sized.ensures ∙ c.if-not-is_sized.false) c.call_on.ensures (search rules) (search rules) (search rules))
+pub returns-in-Some : goal.returns-in-Some
+returns-in-Some c =
+    by-line c.in-Some.is (good-line (slices c.args.keys.now c.args.rows.now c.args.registers.now) _ (sym c.is_sized.ensures ∙ c.if-not-is_sized.false) c.call_on.ensures (search rules) (search rules) (search rules))
 
-pub returns-in-Bad : goal.returns-in-Bad
-returns-in-Bad c =
-    by-line c.in-Bad.is (rw c.bad_line_reply-in-Bad.ensures (bad-line _ (sym c.is_sized.ensures ∙ c.if-not-is_sized.false)))
+pub returns-in-None : goal.returns-in-None
+returns-in-None c =
+    by-line c.in-None.is (rw c.bad_line_reply-in-None.ensures (bad-line _ (sym c.is_sized.ensures ∙ c.if-not-is_sized.false)))

@@ -1,9 +1,0 @@
--- What a line says to a reader of answers: an answer, or refusal 18.
--- Assumes nothing.
-use Rattle.std.proofs.Math.Option.{Option, none, some}
-use Rattle.line.specs.declared.Reply.{Reply}
-use Rattle.answers.specs.declared.AnswerLine.{AnswerLine}
-
-abbrev pub answer_for : Option Reply → AnswerLine
-answer_for (some r) = AnswerLine.Good r
-answer_for none = AnswerLine.Bad
