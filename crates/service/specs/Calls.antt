@@ -4,6 +4,10 @@ use Rattle.std.specs.Prelude.{ℕ, ◌≡◌, List, [], ◌++◌, take}
 use Rattle.run.specs.Partial.{kept_length}
 use Rattle.run.specs.Run.{Runner, Fed, feed, finish, start}
 
+-- How many bytes a piece has at most.
+abbrev pub piece_room : ℕ
+piece_room = 16384
+
 -- Machine and line are those of a run over the input, up to what is kept of its line, and what was given to be written is what that run
 -- writes.
 pub record RanAll (from : Runner) (input given : List ℕ) (to : Runner) : Type 0 where

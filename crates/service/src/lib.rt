@@ -5,9 +5,9 @@
 
 ghost use Rattle.std.specs.Prelude.{◌≡◌, OnOk, IfSome};
 ghost use Rattle.std.specs.Io.KnownBytes.{Appends};
-ghost use Rattle.run.specs.Run.{Fed, program};
+ghost use Rattle.run.specs.Run.{program};
 ghost use Rattle.conversation.specs.Pouring.{AppendsFront};
-ghost use Rattle.service.specs.Calls.{new_run, HearsCalls, EndsCalls, answers_from};
+ghost use Rattle.service.specs.Calls.{new_run};
 ghost use Rattle.service.specs.Served.{ServedNew};
 
 use conversation::{Stop, Teller, converse};
@@ -63,7 +63,7 @@ impl CallTeller {
 
 impl Teller for CallTeller {
     ghost use Rattle.std.specs.Prelude.{[]};
-    ghost use Rattle.service.specs.Calls.{HearsCalls, EndsCalls, answers_from};
+    ghost use Rattle.service.specs.Calls.{piece_room, HearsCalls, EndsCalls, answers_from};
     ghost use Rattle.service.specs.Laws.{calls-hear-on, calls-end-so};
 
     ghost Hears = { HearsCalls };
@@ -78,7 +78,7 @@ impl Teller for CallTeller {
 
     ghost complains = { λ s rest. [] };
 
-    ghost room = { 16384 };
+    ghost room = { piece_room };
 
     ghost hears_on = { calls-hear-on };
 

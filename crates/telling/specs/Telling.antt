@@ -1,7 +1,7 @@
 -- Lines as their bytes come; `told` is what a line with its number gives.
 -- Assumes nothing.
 use Rattle.std.specs.Prelude.{ℕ, ◌+◌, ◌*◌, ◌≤◌, ◌≡◌, cond, List, [], ◌∷◌, ◌++◌, length, take}
-use Rattle.buffer.specs.Buffer.{is_newline}
+use Rattle.buffer.specs.Buffer.{newline, is_newline}
 use Rattle.phrases.specs.Phrases.{Added}
 use Rattle.asking.specs.Asked.{Texts, texts}
 use Rattle.telling.specs.Told.{joined, next_number}
@@ -52,7 +52,7 @@ feed told s (c ∷ cs) =
 -- What a last line lacks: its newline, or nothing where no line is left.
 abbrev pub last_newline : List ℕ → List ℕ
 last_newline [] = []
-last_newline (c ∷ cs) = 10 ∷ []
+last_newline (c ∷ cs) = newline ∷ []
 
 -- At the end of the input a last line without its newline is ended as if it had one.
 abbrev pub finish : (ℕ → List ℕ → Texts) → Speaker → Fed

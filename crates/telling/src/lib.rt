@@ -2,10 +2,10 @@
 // put behind those of the lines before, so what stands in the buffers after a piece of the input is what its lines give.
 #![tactic(auto)]
 
-ghost use Rattle.std.specs.Prelude.{ℕ, ◌≤◌, ◌≡◌, List, [], ◌∷◌, ◌++◌, length, take};
-ghost use Rattle.asking.specs.Asked.{Texts, asked};
-ghost use Rattle.telling.specs.Told.{said};
-ghost use Rattle.telling.specs.Telling.{most, kept, Wrote, Fed, new_telling, kept_more, HasRoom, Gives, HearsLines, EndsLines, gives, feed_byte};
+ghost use Rattle.std.specs.Prelude.{ℕ, ◌≤◌, ◌≡◌, List, length, take};
+ghost use Rattle.buffer.specs.Buffer.{newline};
+ghost use Rattle.asking.specs.Asked.{Texts};
+ghost use Rattle.telling.specs.Telling.{most, kept, Wrote, new_telling, kept_more, HasRoom, Gives};
 
 use asking::{LONGEST, ask_line};
 use conversation::Teller;
@@ -146,7 +146,7 @@ impl<L: Lines> LineTeller<L> {
     // The line has ended: its texts go behind what stands in the buffers.
     fn end_line(&mut self)
         requires { HasRoom self.old }
-        ensures { Gives L.told self.old 10 self.new }
+        ensures { Gives L.told self.old newline self.new }
     {
         let told = L::tell(
             &mut self.out[self.told.out..],
