@@ -44,9 +44,10 @@ module _ (rows : List ℕ) (long : length rows ≡ rows_length) (from n : ℕ) (
       (sym (get_or-take n (drop from (lists_in rows)) i no_ref_p below ∙ get_or-drop from (lists_in rows) i no_ref_p ∙ lists_at rows (from + i) (omega arith)))
       ∙ sym (map_at (λ (e : EvcRefP). e.poc) (take n (drop from (lists_in rows))) i no_ref_p 0 (let l = entries-long in omega arith)))
 
-  pub numbers-tell : (poc : ℕ) → list_any (λ y. eqb y poc) (take n (drop (row_length * number_row + from) rows))
+  pub numbers-tell : (poc m : ℕ) → m ≡ n → list_any (λ y. eqb y poc) (take m (drop (row_length * number_row + from) rows))
       ≡ any_of (λ (e : EvcRefP). eqb e.poc poc) (take n (drop from (lists_in rows)))
-  numbers-tell poc =
-      any-same (λ y. eqb y poc) (take n (drop (row_length * number_row + from) rows))
+  numbers-tell poc m e =
+      rw e
+      (any-same (λ y. eqb y poc) (take n (drop (row_length * number_row + from) rows))
       ∙ ap (any_of (λ y. eqb y poc)) numbers-are
-      ∙ map-any (λ (e : EvcRefP). e.poc) (λ y. eqb y poc) (take n (drop from (lists_in rows)))
+      ∙ map-any (λ (e : EvcRefP). e.poc) (λ y. eqb y poc) (take n (drop from (lists_in rows))))
