@@ -13,10 +13,11 @@ ghost use Rattle.machine.specs.Running.{machine_in, Runs, Makes, made_of, derive
 
 use def::{EvcPoc, PutCall, RefpCall};
 use derivation::poc_derivation;
-use keys::{Called, PLACES, SLOTS};
+use keys::Called;
 use line::{GET_EMPTY_PIC, INIT, OUT_PIC, PUT_PIC, REFP_INIT, reply_of};
 use machine::fields::derived_reply;
 use machine::{Made, Scalars};
+use refp::lists_answer;
 
 // What a call on state and lists comes to; the record stays.
 pub fn made(call: u8, called: Called, poc: EvcPoc) -> Made
@@ -96,15 +97,10 @@ pub fn refp_call(keys: &[u64], rows: &mut [u32], s: Scalars, call: RefpCall) -> 
         let m = machine_in keys_in rows_in s in
         Makes result s keys_in rows_in keys_in rows.new (on_lists 5 m (lists m.pm m.refp call)) }
 {
-    let rest = s.rest;
-    let poc = s.poc;
-    let mut order = [0u64; SLOTS];
-    let mut list = [0u64; PLACES];
-    made(
-        REFP_INIT,
-        filling::refp_init(keys, rows, &mut order, &mut list, rest, call),
-        poc,
-    )
+    let mut rest = s.rest;
+    let given = filling::refp_init(keys, rows, &mut rest, call);
+    let answer = lists_answer(given);
+    made(REFP_INIT, Called { answer, rest }, s.poc)
 }
 
 pub fn poc_call(s: Scalars, log2_sub_gop_length: u8, tid: u8) -> Made

@@ -6,6 +6,6 @@ use Rattle.ordering.specs.InNumbers.{keys_in}
 use Rattle.choosing.specs.declared.Lists.{Lists}
 use Rattle.choosing.specs.Choice.{Chosen, turned_down, chosen}
 
-abbrev pub chosen_in : Result Lists Refusal → Chosen
-chosen_in (Ok lists) = chosen (keys_in lists.forward.items) (keys_in lists.backward.items)
-chosen_in (Err why) = turned_down why
+abbrev pub chosen_in : Result (Unit {0}) Refusal → Lists → Chosen
+chosen_in (Ok done) lists = chosen (keys_in lists.forward.items) (keys_in lists.backward.items)
+chosen_in (Err why) lists = turned_down why

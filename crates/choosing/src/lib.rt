@@ -2,7 +2,7 @@
 // here; the list call of crate `filling` is built on it.
 #![tactic(auto)]
 
-ghost use Rattle.std.specs.Prelude.{◌≡◌, List, map, ℕ, length};
+ghost use Rattle.std.specs.Prelude.{◌≡◌, List, [], map, ℕ, length};
 ghost use Rattle.def.specs.State.{slots};
 ghost use Rattle.keys.specs.Keys.{slot_at};
 ghost use Rattle.ordering.specs.Order.{down};
@@ -10,6 +10,7 @@ ghost use Rattle.ordering.specs.InNumbers.{keys_in};
 ghost use Rattle.choosing.specs.Choice.{is_b, forward_walk, choice};
 ghost use Rattle.choosing.specs.Chosen.{chosen_in};
 
+use arrayvec::ArrayVec;
 use def::{MAX_NUM_REF_PICS, RefpCall, Refusal, SliceType};
 use ordering::picman_update_pic_ref;
 use passes::{RefList, Walk, list_of};
@@ -20,6 +21,17 @@ use ruling::rule_of;
 pub struct Lists {
     pub forward: RefList,
     pub backward: RefList,
+}
+
+impl Lists {
+    pub fn new() -> Self
+        ensures { (result.forward.items ≡ []) × (result.backward.items ≡ []) }
+    {
+        Lists {
+            forward: RefList::new(),
+            backward: RefList::new(),
+        }
+    }
 }
 
 pub fn is_b(slice_type: SliceType) -> bool
@@ -37,9 +49,9 @@ fn forward_walk(slice_type: SliceType) -> Walk
     }
 }
 
-// Decides both lists of a slice other than I on the ordered keys.
-pub fn choose(ordered: &[u64], call: RefpCall) -> Result<Lists, Refusal>
-    ensures { chosen_in result ≡ choice call (keys_in ordered.now) }
+// Decides both lists of a slice other than I on the ordered keys. The lists are lent, and may hold anything.
+pub fn choose(ordered: &[u64], lists: &mut Lists, call: RefpCall) -> Result<(), Refusal>
+    ensures { chosen_in result lists.new ≡ choice call (keys_in ordered.now) }
 {
     if MAX_NUM_REF_PICS < ordered.len() {
         return Err(Refusal::TooManyReferences);
@@ -48,23 +60,26 @@ pub fn choose(ordered: &[u64], call: RefpCall) -> Result<Lists, Refusal>
         return Err(Refusal::NoReferences);
     }
     let rule = rule_of(call);
-    let forward = list_of(ordered, &rule, forward_walk(call.slice_type));
-    if forward.is_empty() {
+    list_of(ordered, &mut lists.forward, &rule, forward_walk(call.slice_type));
+    if lists.forward.is_empty() {
         return Err(Refusal::ForwardListEmpty);
     }
-    let backward = if is_b(call.slice_type) {
-        list_of(ordered, &rule, Walk::UpThenDown)
+    if is_b(call.slice_type) {
+        list_of(ordered, &mut lists.backward, &rule, Walk::UpThenDown);
     } else {
-        RefList::new()
-    };
-    Ok(Lists { forward, backward })
+        lists.backward.clear();
+    }
+    Ok(())
 }
 
 // Decides both lists of a slice other than I on the slots' keys.
-pub fn refp_choose(keys: &[u64], call: RefpCall) -> Result<Lists, Refusal>
+pub fn refp_choose(keys: &[u64], lists: &mut Lists, call: RefpCall) -> Result<(), Refusal>
     requires { length keys.now ≡ slots }
-    ensures { (rows : List ℕ) → chosen_in result ≡ choice call (down (map (slot_at rows) keys.now)) }
+    ensures { (rows : List ℕ)
+        → let pics = map (slot_at rows) keys.now in
+        chosen_in result lists.new ≡ choice call (down pics) }
 {
-    let ordered = picman_update_pic_ref(keys);
-    choose(&ordered, call)
+    let mut ordered = ArrayVec::new();
+    picman_update_pic_ref(keys, &mut ordered);
+    choose(&ordered, lists, call)
 }

@@ -8,7 +8,7 @@ ghost use Rattle.keys.specs.Keys.{stands, Sized};
 ghost use Rattle.refp.specs.Answers.{lists_called};
 ghost use Rattle.refp.specs.Running.{ListsCame};
 
-use choosing::refp_choose;
+use choosing::{Lists, refp_choose};
 use def::{MAX_POC, RefpCall, Refusal};
 use keys::{ROW, Rest};
 use refp::{Counts, is_i};
@@ -34,7 +34,8 @@ pub fn refp_init(
             backward: rest.num_refp_1,
         });
     }
-    let lists = refp_choose(keys, call)?;
+    let mut lists = Lists::new();
+    refp_choose(keys, &mut lists, call)?;
     drop_entries(rows);
     write_entries(keys, rows, &lists.forward, 0);
     write_entries(keys, rows, &lists.backward, ROW);

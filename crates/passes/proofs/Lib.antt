@@ -4,4 +4,4 @@ pub mod PassLaws
 pub mod Taken
 pub mod Backward
 pub mod Steps
-mod OneList
+pub mod OneList

@@ -1,4 +1,5 @@
 -- What is given where something does not fit and where all does. Assumes nothing.
+use Rattle.std.proofs.Common.{Result, Ok, Err}
 use Prim.Native.Nat.{ℕ}
 use mathlib.Core.Path.{◌≡◌, sym}
 use mathlib.Core.Bool.{Bool, true, false, ◌&&◌}
@@ -14,7 +15,7 @@ use Rattle.keys.specs.Keys.{rows_length, slot_at, stands}
 use Rattle.registers.specs.Registers.{registers_length}
 use Rattle.whole.specs.Whole.{whole}
 use Rattle.line.specs.declared.{Line.Line}
-use Rattle.reasons.specs.declared.{WhyAnswer.WhyAnswer}
+use Rattle.reasons.specs.declared.Reason.{Reason}
 use Rattle.reasons.specs.Reasons.{why_whole, why}
 use Rattle.machine.specs.Lent.{slices, sized}
 use Rattle.questions.specs.declared.Question.{Question}
@@ -48,7 +49,7 @@ module _ (keys rows registers : List ℕ) (fit : sized (slices keys rows registe
 -- ---- the state that they stand for
 
 module _ (keys rows : List ℕ) {rest is : Rest} (c : RefpCall) (slot : ℕ) (same : rest ≡ is) where
-  pub not-whole-why : whole (stands keys rows rest) ≡ false → WhyAnswer.Refused Refusal.StateNotWhole ≡ why (stands keys rows is) c slot
+  pub not-whole-why : whole (stands keys rows rest) ≡ false → Err Refusal.StateNotWhole ≡ why (stands keys rows is) c slot
   unfolding why
   not-whole-why w = rw (sym same, w)
 

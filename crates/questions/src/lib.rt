@@ -11,7 +11,7 @@ use def::{DONE, RefpCall, refusal_number};
 use line::{Call, Line};
 use machine::fields::refp_call_of;
 use parsing::read_call;
-use reasons::{Reason, WhyAnswer};
+use reasons::Reason;
 
 pub const REASON_LENGTH: usize = 2;
 
@@ -102,12 +102,12 @@ fn write_reason(reason: &mut [u8], told: Reason) -> u8
     DONE
 }
 
-pub fn show_why(reason: &mut [u8], answer: WhyAnswer) -> u8
+pub fn show_why(reason: &mut [u8], answer: Result<Reason, Refusal>) -> u8
     requires { length reason.old ≡ reason_length }
     ensures { why_left result reason.new ≡ shown_why answer reason.old }
 {
     match answer {
-        WhyAnswer::Told(told) => write_reason(reason, told),
-        WhyAnswer::Refused(why) => refusal_number(why),
+        Ok(told) => write_reason(reason, told),
+        Err(why) => refusal_number(why),
     }
 }

@@ -1,9 +1,10 @@
 -- `calls::refp_call` meets its contract. Assumes nothing.
-use mathlib.Core.Path.{refl}
+use mathlib.Core.Path.{refl, ◌∙◌}
 use Rattle.machine.proofs.Running.{lists-makes}
 use Rattle.refp.proofs.ListLaws.{on-whole}
 use Rattle.calls.proofs.refp_call.Goals as goal
 
 pub returns : goal.returns
 returns c =
-    lists-makes c.args.keys.now c.args.rows.now c.args.s 5 refl c.made.ensures (on-whole _ _ c.args.call c.requires.whole_state) c.refp_init.ensures
+    lists-makes c.args.keys.now c.args.rows.now c.args.s 5 refl (rw c.lists_answer-answer.ensures at c.made.ensures)
+    (on-whole _ _ c.args.call c.requires.whole_state) c.refp_init-given.ensures
