@@ -29,8 +29,6 @@ pub fn why_on(keys: &[u64], call: RefpCall, slot: u8) -> Result<Reason, Refusal>
     let mut ordered = ArrayVec::new();
     picman_update_pic_ref(keys, &mut ordered);
     let mut lists = Lists::new();
-    if let Err(why) = choose(&ordered, &mut lists, call) {
-        return Err(why);
-    }
+    choose(&ordered, &mut lists, call)?;
     slot_answer(keys, &ordered, call, slot)
 }

@@ -89,8 +89,8 @@ one-buffer pm i j w t s e =
     t s e
 
 mem-walked : {k : Key} (way : Direction) (ks : List Key) → Memᴰ k ks → Memᴰ k (walked way ks)
-mem-walked {k} true ks m = mem-reverse (reverse ks) (subst (Memᴰ k) (sym (reverse-reverse ks)) m)
-mem-walked false ks m = m
+mem-walked {k} Direction.Up ks m = mem-reverse (reverse ks) (subst (Memᴰ k) (sym (reverse-reverse ks)) m)
+mem-walked Direction.Down ks m = m
 
 -- ---- the key of a marked slot stands in the order, and no other key has its slot
 

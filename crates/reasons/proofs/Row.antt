@@ -177,13 +177,13 @@ module _ (c : RefpCall) (xs : List Slot) (slot : ℕ) where
           let same : row_place r ≡ row_place q = omega arith in
           sym (placed r e.holds) ∙ ap (λ (n : ℕ). reason_from n cnt) same ∙ placed q f.holds
 
-same-told : {r q : Reason} → Ok r ≡ Ok q → r ≡ q
+same-told : {r q : Reason} → ◌≡◌ {A = Result Reason Refusal} (Ok r) (Ok q) → r ≡ q
 same-told e = cc
 
 pub each-exactly : EachExactly
 each-exactly pm refp c slot r asked = (
   λ e. subst (Earliest c pm.pic slot) (same-told (sym (is-judged pm c slot asked) ∙ e)) (earliest-given c pm.pic slot),
-  λ h. is-judged pm c slot asked ∙ ap Ok (one-earliest c pm.pic slot _ r (earliest-given c pm.pic slot) h),
+  λ h. is-judged pm c slot asked ∙ ap {B = Result Reason Refusal} Ok (one-earliest c pm.pic slot _ r (earliest-given c pm.pic slot) h),
 )
 
 -- ---- slice I
