@@ -8,7 +8,7 @@ use Prim.Native.Nat.{ℕ, suc, ◌+◌, ◌%◌, ◌≤◌, ◌<◌}
 use native.Mathlib.Omega.{arith}
 use lib.Dec.{eqb}
 use lib.ListN.{length, get_or, take, drop, length-drop}
-use lib.Seq.{split_at, get_or-take, get_or-drop, length-take-le}
+use lib.Seq.{split_at, take_all, get_or-take, get_or-drop, length-take-le}
 use borrow.Author.Tests.{eq-eqb, ne_eqb}
 use Rattle.seq.specs.Lists.{count_if}
 use Rattle.seq.proofs.Members.{holds-tail}
@@ -61,9 +61,10 @@ module _ (slot : ℕ) where
           e)
 
       pub cut-up : ((i : ℕ) → at < i → i < length ns → get_or ns i 0 % 256 ≡ slot → ⊥)
-          → reverse (keys_in (drop (suc at) ns)) ≡ in_front slot (reverse (keys_in ns))
-      cut-up none =
-          sym
+          → (m : ℕ) → length (drop (suc at) ns) ≤ m → reverse (keys_in (take m (drop (suc at) ns))) ≡ in_front slot (reverse (keys_in ns))
+      cut-up none m few =
+          ap (λ (l : List ℕ). reverse (keys_in l)) (take_all m (drop (suc at) ns) few)
+          ∙ sym
           (ap (λ (ks : List Key). in_front slot (reverse ks)) split
           ∙ ap (in_front slot)
           (reverse-append (keys_in (take at ns)) (key_in (get_or ns at 0) ∷ keys_in (drop (suc at) ns))
@@ -80,10 +81,13 @@ module _ (slot : ℕ) where
 pub count-front : (p : Key → Bool) (slot : ℕ) (ks : List Key) → count_if p (in_front slot ks) ≤ count_if p ks
 unfolding in_front count_if
 count-front p slot [] = omega arith
-count-front p slot (k ∷ ks) = pick (eqb k.slot slot) (p k) (count-front p slot ks)
+count-front p slot (k ∷ ks) = pick (eqb k.slot slot) (count-front p slot ks)
   where
-    pick : (b c : Bool) → count_if p (in_front slot ks) ≤ count_if p ks
-        → cond b 0 (cond c (suc (count_if p (in_front slot ks))) (count_if p (in_front slot ks))) ≤ cond c (suc (count_if p ks)) (count_if p ks)
-    pick true c l = omega arith
-    pick false true l = omega arith
-    pick false false l = l
+    both : (c : Bool) → count_if p (in_front slot ks) ≤ count_if p ks
+        → cond c (suc (count_if p (in_front slot ks))) (count_if p (in_front slot ks)) ≤ cond c (suc (count_if p ks)) (count_if p ks)
+    both true l = omega arith
+    both false l = l
+
+    pick : (b : Bool) → count_if p (in_front slot ks) ≤ count_if p ks → count_if p (cond b [] (k ∷ in_front slot ks)) ≤ count_if p (k ∷ ks)
+    pick true l = omega arith
+    pick false l = both (p k) l
