@@ -11,7 +11,6 @@ use lib.ListN.{length, get_or, take, drop, length-drop}
 use lib.Seq.{split_at, take_all, get_or-take, get_or-drop, length-take-le}
 use borrow.Author.Tests.{eq-eqb, ne_eqb}
 use Rattle.seq.specs.Lists.{count_if}
-use Rattle.seq.proofs.Members.{holds-tail}
 use Rattle.seq.proofs.Orders.{mem-reverse}
 use Rattle.ordering.specs.Order.{Key}
 use Rattle.ordering.specs.InNumbers.{key_in, keys_in}

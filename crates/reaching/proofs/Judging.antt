@@ -12,7 +12,7 @@ use Rattle.def.specs.declared.{RefpCall.RefpCall}
 use Rattle.ordering.specs.Order.{Key}
 use Rattle.ordering.specs.InNumbers.{key_in, keys_in}
 use Rattle.passes.specs.declared.{Direction.Direction, PassRule.PassRule}
-use Rattle.passes.specs.Passes.{Ask, Progress, side_of, walked, pass_on, pass}
+use Rattle.passes.specs.Passes.{Ask, side_of, walked, pass_on}
 use Rattle.passes.specs.InNumbers.{ask_in, progress_in, SameAsk}
 use Rattle.passes.proofs.Sides.{sides-count}
 use Rattle.passes.proofs.Taken.{grows, more-few}

@@ -1,9 +1,9 @@
 -- `reaching::in_front` meets its contract: cut at the place of the slot's key. Assumes nothing.
-use Prim.Native.Nat.{ℕ, suc, ◌+◌, ◌-◌, ◌%◌, ◌<◌}
+use Prim.Native.Nat.{ℕ, suc, ◌-◌, ◌%◌, ◌<◌}
 use native.Mathlib.Omega.{arith}
 use mathlib.Core.Path.{◌≡◌}
 use native.Mathlib.Numerals.{add-one}
-use lib.ListN.{length, get_or, drop, length-drop}
+use lib.ListN.{length, get_or, length-drop}
 use Rattle.std.proofs.Common.{rules}
 use Rattle.reaching.proofs.Front.{all-down, all-up, cut-down, cut-up}
 use Rattle.reaching.proofs.in_front.Goals as goal
