@@ -6,9 +6,10 @@ ghost use Rattle.seq.specs.Lists.{any_of};
 ghost use Rattle.def.specs.State.{list_places};
 ghost use Rattle.keys.specs.Keys.{row_length, rows_length, lists_in};
 ghost use Rattle.refp.specs.Copy.{copy};
+ghost use Rattle.refp.specs.Answers.{copy_answer};
 ghost use Rattle.refp.specs.Running.{entry_with, rows_with_entry, CopyCame};
 
-use def::{Answer, Refusal};
+use def::{MAX_NUM_REF_PICS, REFP_NUM, Refusal};
 use keys::{ENTRY_ROW, NUMBER_ROW, ROW};
 use storing::write_head;
 
@@ -18,18 +19,11 @@ fn number_stands(rows: &[u32], from: usize, n: usize, poc: u32) -> bool
     ensures { result ≡ any_of (λ e. eqb e.poc poc) (take n (drop from (lists_in rows.now))) }
 {
     let first = ROW * NUMBER_ROW + from;
-    let mut i: usize = 0;
-    while i < n {
-        if rows[first + i] == poc {
-            return true;
-        }
-        i = i + 1;
-    }
-    false
+    rows[first..first + n].contains(&poc)
 }
 
 // An entry, given by its parts, goes to place `cnt` of one list unless its number stands among the first `cnt` entries there. `check_copy_refp`
-// of crate `copying` is the same by value; lent arrays have their lengths, which is all that is required.
+// of crate `copying` is the same by value; a lent array has its length, which is all that is required.
 pub fn copy_refp(
     rows: &mut [u32],
     cnt: u64,
@@ -37,22 +31,22 @@ pub fn copy_refp(
     head: u32,
     poc: u32,
     numbers: &[u32; ROW],
-) -> Answer
+) -> Result<(), Refusal>
     requires { (length rows.old ≡ rows_length) × (length numbers.now ≡ row_length) }
     ensures { let before = rows.old in
         let stored = rows_with_entry before (lidx * list_places + cnt) head poc numbers.now in
         let wanted = copy (lists_in before) cnt lidx (entry_with head poc numbers.now) in
-        CopyCame result before rows.new stored wanted }
+        CopyCame (copy_answer result) before rows.new stored wanted }
 {
-    if (20 < cnt) | (1 < lidx) {
-        return Answer::Refused(Refusal::NoSuchPlace);
+    if MAX_NUM_REF_PICS as u64 <= cnt || REFP_NUM as u64 <= lidx {
+        return Err(Refusal::NoSuchPlace);
     }
     let from = lidx as usize * ROW;
     let n = cnt as usize;
     if number_stands(rows, from, n, poc) {
-        return Answer::Refused(Refusal::SameNumber);
+        return Err(Refusal::SameNumber);
     }
     write_head(rows, from + n, head, poc);
     keys::row::write_row(rows, ENTRY_ROW + (from + n), numbers);
-    Answer::Done
+    Ok(())
 }

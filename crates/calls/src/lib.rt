@@ -14,10 +14,10 @@ ghost use Rattle.machine.specs.Running.{machine_in, Runs, Makes};
 
 use def::{PutCall, RefpCall};
 use derivation::evc_poc_derivation;
-use keys::{PLACES, SLOTS};
 use line::{GET_EMPTY_PIC, INIT, OUT_PIC, PUT_PIC, REFP_INIT, Reply, reply_of};
 use machine::Scalars;
 use machine::fields::derived_reply;
+use refp::lists_answer;
 
 pub fn init_call(
     keys: &[u64],
@@ -73,11 +73,8 @@ pub fn refp_call(keys: &[u64], rows: &mut [u32], s: &mut Scalars, call: RefpCall
         Makes result s.new s.old keys.now rows.old keys.now rows.new
         (on_lists 5 m (lists m.pm m.refp call)) }
 {
-    let mut order = [0u64; SLOTS];
-    let mut list = [0u64; PLACES];
-    let called = filling::refp_init(keys, rows, &mut order, &mut list, s.rest, call);
-    s.rest = called.rest;
-    reply_of(REFP_INIT, called.answer)
+    let given = filling::refp_init(keys, rows, &mut s.rest, call);
+    reply_of(REFP_INIT, lists_answer(given))
 }
 
 // The state stays.

@@ -1,4 +1,4 @@
 pub mod BackwardSome
 pub mod Accepted
-pub mod Deciding
 pub mod Claims
+mod Deciding

@@ -1,3 +1,3 @@
 pub mod Choice
-pub mod Decided
+pub mod Chosen
 pub mod Claims

@@ -7,6 +7,7 @@ ghost use Rattle.refp.specs.Copy.{copy};
 use def::{CopyResult, EvcRefP, REFP_PLACES};
 use entries::{head_of, put_lists, take_lists};
 use keys::ROWS;
+use refp::copy_answer;
 
 pub fn check_copy_refp(
     refp: [EvcRefP; REFP_PLACES],
@@ -19,7 +20,7 @@ pub fn check_copy_refp(
     let mut rows = [0u32; ROWS];
     take_lists(refp, &mut rows);
     let numbers = refp_src.list_poc;
-    let answer = adding::copy_refp(
+    let given = adding::copy_refp(
         &mut rows,
         cnt,
         lidx,
@@ -27,6 +28,7 @@ pub fn check_copy_refp(
         refp_src.poc,
         &numbers,
     );
+    let answer = copy_answer(given);
     let copied = put_lists(&rows);
     CopyResult {
         answer,

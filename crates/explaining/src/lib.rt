@@ -7,20 +7,18 @@ ghost use Rattle.reasons.specs.Reasons.{why};
 
 use def::{EvcPm, RefpCall, Refusal};
 use judging::why_on;
-use keys::{PLACES, ROWS, SLOTS};
+use keys::{ROWS, SLOTS};
 use opening::open_state;
-use reasons::WhyAnswer;
+use reasons::Reason;
 
-pub fn evc_picman_why(pm: EvcPm, call: RefpCall, slot: u8) -> WhyAnswer
+pub fn evc_picman_why(pm: EvcPm, call: RefpCall, slot: u8) -> Result<Reason, Refusal>
     ensures { result ≡ why pm call slot }
 {
     let mut keys = [0u64; SLOTS];
     let mut rows = [0u32; ROWS];
     let state = open_state(pm, &mut keys, &mut rows);
     if !state.is_whole {
-        return WhyAnswer::Refused(Refusal::StateNotWhole);
+        return Err(Refusal::StateNotWhole);
     }
-    let mut pic_ref = [0u64; SLOTS];
-    let mut list = [0u64; PLACES];
-    why_on(&keys, &mut pic_ref, &mut list, call, slot)
+    why_on(&keys, call, slot)
 }

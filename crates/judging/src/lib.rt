@@ -2,44 +2,33 @@
 // list call's refusals come from `choose`, and the answer for a slot from crate `one_slot`.
 #![tactic(auto)]
 
-ghost use Rattle.std.specs.Prelude.{◌≡◌, List, map, ℕ, ◌+◌, length};
-ghost use Rattle.def.specs.State.{slots, list_places};
+ghost use Rattle.std.specs.Prelude.{◌≡◌, List, map, ℕ, length};
+ghost use Rattle.def.specs.State.{slots};
 ghost use Rattle.keys.specs.Keys.{slot_at};
 ghost use Rattle.reasons.specs.Reasons.{why_whole};
 
-use choosing::choose;
-use def::{Answer, MAX_POC, RefpCall, Refusal};
-use keys::{PLACES, SLOTS};
+use arrayvec::ArrayVec;
+use choosing::{Lists, choose};
+use def::{MAX_POC, RefpCall, Refusal};
 use one_slot::{no_list, slot_answer};
 use ordering::picman_update_pic_ref;
-use reasons::WhyAnswer;
+use reasons::Reason;
 use refp::is_i;
 
-// The answer on a whole state, which every caller has tested. `pic_ref` and `list` are lent for the work and may hold anything; a lent array
-// has its length, which is all that is required.
-pub fn why_on(
-    keys: &[u64],
-    pic_ref: &mut [u64; SLOTS],
-    list: &mut [u64; PLACES],
-    call: RefpCall,
-    slot: u8,
-) -> WhyAnswer
-    requires { (length keys.now ≡ slots)
-        × (length pic_ref.old ≡ slots)
-        × (length list.old ≡ list_places + list_places) }
+// The answer on a whole state, which every caller has tested.
+pub fn why_on(keys: &[u64], call: RefpCall, slot: u8) -> Result<Reason, Refusal>
+    requires { length keys.now ≡ slots }
     ensures { (rows : List ℕ) → result ≡ why_whole (map (slot_at rows) keys.now) call slot }
 {
     if MAX_POC < call.poc {
-        return WhyAnswer::Refused(Refusal::NumberTooHigh);
+        return Err(Refusal::NumberTooHigh);
     }
-    let slice_type = call.slice_type;
-    if is_i(slice_type) {
+    if is_i(call.slice_type) {
         return no_list(keys, slot);
     }
-    let num = picman_update_pic_ref(keys, pic_ref);
-    let answer = choose(pic_ref, num, list, call);
-    if let Answer::Refused(why) = answer {
-        return WhyAnswer::Refused(why);
-    }
-    slot_answer(keys, pic_ref, num, list, call, slot)
+    let mut ordered = ArrayVec::new();
+    picman_update_pic_ref(keys, &mut ordered);
+    let mut lists = Lists::new();
+    choose(&ordered, &mut lists, call)?;
+    slot_answer(keys, &ordered, call, slot)
 }

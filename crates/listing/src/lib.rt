@@ -7,8 +7,9 @@ ghost use Rattle.refp.specs.Lists.{lists};
 
 use def::{Answer, EvcPm, EvcRefP, REFP_PLACES, RefpCall, RefpResult, Refusal};
 use entries::{put_lists, take_lists};
-use keys::{PLACES, ROWS, SLOTS};
+use keys::{Called, ROWS, SLOTS};
 use opening::{finished, open_state};
+use refp::lists_answer;
 
 pub fn evc_picman_refp_init(pm: EvcPm, refp: [EvcRefP; REFP_PLACES], call: RefpCall) -> RefpResult
     ensures { result ≡ lists pm refp call }
@@ -24,15 +25,14 @@ pub fn evc_picman_refp_init(pm: EvcPm, refp: [EvcRefP; REFP_PLACES], call: RefpC
             refp,
         };
     }
-    let mut pic_ref = [0u64; SLOTS];
-    let mut list = [0u64; PLACES];
-    let called = filling::refp_init(&keys, &mut rows, &mut pic_ref, &mut list, state.rest, call);
-    let done = finished(&keys, &rows, called);
-    let answer = done.answer;
+    let mut rest = state.rest;
+    let given = filling::refp_init(&keys, &mut rows, &mut rest, call);
+    let answer = lists_answer(given);
+    let done = finished(&keys, &rows, Called { answer, rest });
     let after = done.pm;
     let filled = put_lists(&rows);
     RefpResult {
-        answer,
+        answer: done.answer,
         pm: after,
         refp: filled,
     }

@@ -12,25 +12,22 @@ ghost use Rattle.questions.specs.Asked.{reason_length, why_left, shown_why, why_
 
 use def::{RefpCall, Refusal};
 use judging::why_on;
-use keys::{PLACES, SLOTS};
 use questions::{REASON_LENGTH, question_in, show_why};
-use reasons::WhyAnswer;
+use reasons::Reason;
 use registers::rest_of;
 use sizing::is_sized;
 use wholeness::is_whole;
 
 // The answer on keys and registers of the right sizes.
-fn slices_answer(keys: &[u64], registers: &[u32], call: RefpCall, slot: u8) -> WhyAnswer
+fn slices_answer(keys: &[u64], registers: &[u32], call: RefpCall, slot: u8) -> Result<Reason, Refusal>
     requires { (length keys.now ≡ slots) × (length registers.now ≡ registers_length) }
     ensures { (rows : List ℕ) → result ≡ why (stands keys.now rows (rest_of registers.now)) call slot }
 {
     let rest = rest_of(registers);
     if !is_whole(keys, rest) {
-        return WhyAnswer::Refused(Refusal::StateNotWhole);
+        return Err(Refusal::StateNotWhole);
     }
-    let mut pic_ref = [0u64; SLOTS];
-    let mut list = [0u64; PLACES];
-    why_on(keys, &mut pic_ref, &mut list, call, slot)
+    why_on(keys, call, slot)
 }
 
 // A list request, of slices of the right sizes.

@@ -8,6 +8,7 @@ ghost use Rattle.one_entry.specs.OneEntry.{entry_given, fits, rows_placed, Entry
 
 use keys::{ROW, ROWS};
 use line::BAD_LINE;
+use refp::copy_answer;
 
 fn is_fit(rows: &[u32], present: u8, list_poc: &[u32]) -> bool
     ensures { result ≡ fits rows.now present list_poc.now }
@@ -46,6 +47,6 @@ pub fn place_entry(
     let mut numbers = [0; ROW];
     numbers.copy_from_slice(list_poc);
     let head = head_from(present, buf);
-    let answer = adding::copy_refp(rows, cnt, lidx, head, poc, &numbers);
-    line::reply_of(0, answer).status
+    let given = adding::copy_refp(rows, cnt, lidx, head, poc, &numbers);
+    line::reply_of(0, copy_answer(given)).status
 }

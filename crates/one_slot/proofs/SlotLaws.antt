@@ -1,4 +1,5 @@
 -- A slot of the state that the keys stand for, and the answer for one that holds a picture. Assumes nothing.
+use Rattle.std.proofs.Common.{Result, Ok, Err}
 use mathlib.Core.Path.{◌≡◌, refl, sym, ap, ◌∙◌}
 use mathlib.Core.Bool.{Bool, true, false}
 use mathlib.Core.Bool as Bool
@@ -14,7 +15,7 @@ use Rattle.def.specs.State.{no_slot, is_present, is_marked}
 use Rattle.def.specs.declared.{Slot.Slot, RefpCall.RefpCall, Refusal.Refusal}
 use Rattle.keys.specs.Keys.{key_marked, slot_at}
 use Rattle.ordering.specs.Order.{Key, key_of, down}
-use Rattle.reasons.specs.declared.{Reason.Reason, WhyAnswer.WhyAnswer}
+use Rattle.reasons.specs.declared.Reason.{Reason}
 use Rattle.reasons.specs.Reasons.{judged_at, key_at, reason_for, of_slot}
 
 module _ (rows keys : List ℕ) (slot : ℕ) where
@@ -40,17 +41,17 @@ module _ (c : RefpCall) (rows keys : List ℕ) (slot : ℕ) (held : is_present (
   there : get_or (map (slot_at rows) keys) slot no_slot ≡ slot_at rows (get_or keys slot 0)
   there = slot-there rows keys slot (held_below rows keys slot held)
 
-  told : (r : Reason) → r ≡ reason_for c slots_of slot → WhyAnswer.Told r ≡ of_slot slots_of slot (reason_for c slots_of slot)
-  told r e = ap WhyAnswer.Told e ∙ sym (cond-true (WhyAnswer.Told (reason_for c slots_of slot)) (WhyAnswer.Refused Refusal.NoSuchPlace) held)
+  told : (r : Reason) → r ≡ reason_for c slots_of slot → Ok r ≡ of_slot slots_of slot (reason_for c slots_of slot)
+  told r e = ap {B = Result Reason Refusal} Ok e ∙ sym (cond-true (Ok (reason_for c slots_of slot)) (Err Refusal.NoSuchPlace) held)
 
-  pub told-not-marked : key_marked (get_or keys slot 0) ≡ false → WhyAnswer.Told Reason.NotMarked ≡ of_slot slots_of slot (reason_for c slots_of slot)
+  pub told-not-marked : key_marked (get_or keys slot 0) ≡ false → Ok Reason.NotMarked ≡ of_slot slots_of slot (reason_for c slots_of slot)
   unfolding reason_for judged_at
   told-not-marked e =
       let m : is_marked (get_or (map (slot_at rows) keys) slot no_slot) ≡ false = ap is_marked there ∙ e in
       told Reason.NotMarked (λ i. judged_at c (sym m i) (down slots_of) (key_at slots_of slot))
 
   pub told-reason : {r : Reason} {ks : List Key} → key_marked (get_or keys slot 0) ≡ true → ks ≡ down (map (slot_at rows) keys)
-      → r ≡ judged_at c true ks (key_of slot (slot_at rows (get_or keys slot 0))) → WhyAnswer.Told r ≡ of_slot slots_of slot (reason_for c slots_of slot)
+      → r ≡ judged_at c true ks (key_of slot (slot_at rows (get_or keys slot 0))) → Ok r ≡ of_slot slots_of slot (reason_for c slots_of slot)
   unfolding reason_for
   told-reason {r} e o q =
       let m : is_marked (get_or (map (slot_at rows) keys) slot no_slot) ≡ true = ap is_marked there ∙ e in

@@ -1,3 +1,3 @@
 pub mod OrderLaws
-pub mod Insertion
-pub mod Gathering
+mod Insertion
+mod Gathering

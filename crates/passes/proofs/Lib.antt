@@ -4,3 +4,4 @@ pub mod PassLaws
 pub mod Taken
 pub mod Backward
 pub mod Steps
+pub mod OneList

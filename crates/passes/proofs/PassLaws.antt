@@ -8,94 +8,94 @@ use lib.ListN.{length}
 use borrow.Author.Tests.{le-ltb}
 use Rattle.seq.specs.Lists.{select}
 use Rattle.seq.proofs.Orders.{select-reverse}
-use Rattle.passes.specs.declared.Walk.{Walk}
+use Rattle.passes.specs.declared.{Direction.Direction, Walk.Walk}
 use Rattle.ordering.specs.Order.{Key}
-use Rattle.passes.specs.Passes.{Ask, Progress, takes_key, walked, step_on, pass_on, pass, both_ways, list_of}
+use Rattle.passes.specs.Passes.{Ask, Progress, opposite, takes_key, walked, step_on, pass_on, pass, both_ways, list_of}
 use Rattle.passes.specs.InNumbers.{SameAsk}
 use Rattle.passes.specs.Claims.{PassAppends, FullStays, ageless, young, PassingOver, ListsPassOver}
 
 -- ---- one step
 
-module _ (a : Ask) (up : Bool) (p : Progress) (k : Key) where
-  pub step-takes : takes_key a up (length p.list) p.bound k ≡ true
-      → step_on a up p k ≡ record { list = p.list ++ (k ∷ []); bound = a.after k.layer }
+module _ (a : Ask) (way : Direction) (p : Progress) (k : Key) where
+  pub step-takes : takes_key a way (length p.list) p.bound k ≡ true
+      → step_on a way p k ≡ record { list = p.list ++ (k ∷ []); bound = a.after k.layer }
   step-takes t = rw t
 
-  pub step-leaves : takes_key a up (length p.list) p.bound k ≡ false → step_on a up p k ≡ p
+  pub step-leaves : takes_key a way (length p.list) p.bound k ≡ false → step_on a way p k ≡ p
   step-leaves t = rw t
 
-  step-full : a.limit ≤ length p.list → step_on a up p k ≡ p
+  step-full : a.limit ≤ length p.list → step_on a way p k ≡ p
   step-full h = step-leaves (rw (le-ltb (length p.list) a.limit h))
 
 -- ---- a pass
 
 pub pass-appends : PassAppends
 unfolding pass_on
-pass-appends a up p ks hs = foldl-append (step_on a up) p ks hs
+pass-appends a way p ks hs = foldl-append (step_on a way) p ks hs
 
 pub full-stays : FullStays
 unfolding pass_on
-full-stays a up p [] h = refl
-full-stays a up p (k ∷ ks) h = rw (step-full a up p k h) (full-stays a up p ks h)
+full-stays a way p [] h = refl
+full-stays a way p (k ∷ ks) h = rw (step-full a way p k h) (full-stays a way p ks h)
 
 -- ---- passing over
 
-module _ (a : Ask) (up : Bool) where
-  step-old : (p : Progress) (k : Key) → a.old k ≡ true → step_on a up p k ≡ p
-  step-old p k o = step-leaves a up p k (rw o (and-false (ltb (length p.list) a.limit)))
+module _ (a : Ask) (way : Direction) where
+  step-old : (p : Progress) (k : Key) → a.old k ≡ true → step_on a way p k ≡ p
+  step-old p k o = step-leaves a way p k (rw o (and-false (ltb (length p.list) a.limit)))
 
-  step-young : (p : Progress) (k : Key) → a.old k ≡ false → step_on a up p k ≡ step_on (ageless a) up p k
+  step-young : (p : Progress) (k : Key) → a.old k ≡ false → step_on a way p k ≡ step_on (ageless a) way p k
   step-young p k o = rw o
 
 pub passing-over : PassingOver
 unfolding pass_on select
-passing-over a up p [] = refl
-passing-over a up p (k ∷ ks) = pick (a.old k) refl (λ q. passing-over a up q ks)
+passing-over a way p [] = refl
+passing-over a way p (k ∷ ks) = pick (a.old k) refl (λ q. passing-over a way q ks)
   where
-    pick : (o : Bool) → a.old k ≡ o → ((q : Progress) → pass_on a up q ks ≡ pass_on (ageless a) up q (young a ks))
-        → pass_on a up (step_on a up p k) ks ≡ pass_on (ageless a) up p (cond (not o) (k ∷ young a ks) (young a ks))
-    pick true o rest = rw (step-old a up p k o) (rest p)
-    pick false o rest = rest (step_on a up p k) ∙ ap (λ (q : Progress). pass_on (ageless a) up q (young a ks)) (step-young a up p k o)
+    pick : (o : Bool) → a.old k ≡ o → ((q : Progress) → pass_on a way q ks ≡ pass_on (ageless a) way q (young a ks))
+        → pass_on a way (step_on a way p k) ks ≡ pass_on (ageless a) way p (cond (not o) (k ∷ young a ks) (young a ks))
+    pick true o rest = rw (step-old a way p k o) (rest p)
+    pick false o rest = rest (step_on a way p k) ∙ ap (λ (q : Progress). pass_on (ageless a) way q (young a ks)) (step-young a way p k o)
 
-walked-young : (a : Ask) (up : Bool) (ks : List Key) → young a (walked up ks) ≡ walked up (young a ks)
-walked-young a true ks = select-reverse (λ k. not (a.old k)) ks
-walked-young a false ks = refl
+walked-young : (a : Ask) (way : Direction) (ks : List Key) → young a (walked way ks) ≡ walked way (young a ks)
+walked-young a Direction.Up ks = select-reverse (λ k. not (a.old k)) ks
+walked-young a Direction.Down ks = refl
 
-pass-young : (a : Ask) (up : Bool) (ks list : List Key) → pass a up ks list ≡ pass (ageless a) up (young a ks) list
+pass-young : (a : Ask) (way : Direction) (ks list : List Key) → pass a way ks list ≡ pass (ageless a) way (young a ks) list
 unfolding pass
-pass-young a up ks list =
+pass-young a way ks list =
     let p : Progress = record { list = list; bound = a.start } in
-    ap (λ (q : Progress). q.list) (passing-over a up p (walked up ks) ∙ ap (pass_on (ageless a) up p) (walked-young a up ks))
+    ap (λ (q : Progress). q.list) (passing-over a way p (walked way ks) ∙ ap (pass_on (ageless a) way p) (walked-young a way ks))
 
-both-young : (a : Ask) (up : Bool) (ks : List Key) → both_ways a up ks ≡ both_ways (ageless a) up (young a ks)
-both-young a up ks = pass-young a (not up) ks (pass a up ks []) ∙ ap (pass (ageless a) (not up) (young a ks)) (pass-young a up ks [])
+both-young : (a : Ask) (way : Direction) (ks : List Key) → both_ways a way ks ≡ both_ways (ageless a) way (young a ks)
+both-young a way ks = pass-young a (opposite way) ks (pass a way ks []) ∙ ap (pass (ageless a) (opposite way) (young a ks)) (pass-young a way ks [])
 
 pub lists-pass-over : ListsPassOver
-lists-pass-over a Walk.Down ks = pass-young a false ks []
-lists-pass-over a Walk.DownThenUp ks = both-young a false ks
-lists-pass-over a Walk.UpThenDown ks = both-young a true ks
+lists-pass-over a Walk.Down ks = pass-young a Direction.Down ks []
+lists-pass-over a Walk.DownThenUp ks = both-young a Direction.Down ks
+lists-pass-over a Walk.UpThenDown ks = both-young a Direction.Up ks
 
 -- ---- requests that ask the same
 
 module _ {a b : Ask} (same : SameAsk a b) where
-  same_step : (up : Bool) (p : Progress) (k : Key) → step_on a up p k ≡ step_on b up p k
-  same_step up p k = rw (same.same_limit, same.same_old k, same.same_poc, same.same_after k.layer)
+  same_step : (way : Direction) (p : Progress) (k : Key) → step_on a way p k ≡ step_on b way p k
+  same_step way p k = rw (same.same_limit, same.same_old k, same.same_poc, same.same_after k.layer)
 
-  same-on : (up : Bool) (p : Progress) (ks : List Key) → pass_on a up p ks ≡ pass_on b up p ks
+  same-on : (way : Direction) (p : Progress) (ks : List Key) → pass_on a way p ks ≡ pass_on b way p ks
   unfolding pass_on
-  same-on up p [] = refl
-  same-on up p (k ∷ ks) = rw (same_step up p k) (same-on up (step_on b up p k) ks)
+  same-on way p [] = refl
+  same-on way p (k ∷ ks) = rw (same_step way p k) (same-on way (step_on b way p k) ks)
 
-  same-pass : (up : Bool) (ks list : List Key) → pass a up ks list ≡ pass b up ks list
+  same-pass : (way : Direction) (ks list : List Key) → pass a way ks list ≡ pass b way ks list
   unfolding pass
-  same-pass up ks list =
+  same-pass way ks list =
       rw same.same_start
-      (ap (λ (p : Progress). p.list) (same-on up (record { list = list; bound = b.start }) (walked up ks)))
+      (ap (λ (p : Progress). p.list) (same-on way (record { list = list; bound = b.start }) (walked way ks)))
 
-  same-both : (up : Bool) (ks : List Key) → both_ways a up ks ≡ both_ways b up ks
-  same-both up ks = same-pass (not up) ks (pass a up ks []) ∙ ap (pass b (not up) ks) (same-pass up ks [])
+  same-both : (way : Direction) (ks : List Key) → both_ways a way ks ≡ both_ways b way ks
+  same-both way ks = same-pass (opposite way) ks (pass a way ks []) ∙ ap (pass b (opposite way) ks) (same-pass way ks [])
 
   pub same-list : (walk : Walk) (ks : List Key) → list_of a walk ks ≡ list_of b walk ks
-  same-list Walk.Down ks = same-pass false ks []
-  same-list Walk.DownThenUp ks = same-both false ks
-  same-list Walk.UpThenDown ks = same-both true ks
+  same-list Walk.Down ks = same-pass Direction.Down ks []
+  same-list Walk.DownThenUp ks = same-both Direction.Down ks
+  same-list Walk.UpThenDown ks = same-both Direction.Up ks

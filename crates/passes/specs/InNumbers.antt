@@ -1,17 +1,16 @@
--- A pass in plain numbers: what it asks, and what it leaves in the array of a list.
+-- A pass in plain numbers: what it asks, and what it does.
 -- Assumes nothing.
-use Rattle.std.specs.Prelude.{ℕ, ◌+◌, ◌-◌, ◌≤◌, ◌≡◌, Bool, cond, List, ltb, length, take, drop}
-use Rattle.seq.specs.Lists.{count_if}
-use Rattle.def.specs.State.{slots, list_places}
+use Rattle.std.specs.Prelude.{ℕ, ◌-◌, ◌≡◌, cond, List, ltb, Option, Some, None}
 use Rattle.ordering.specs.Order.{Key}
 use Rattle.ordering.specs.InNumbers.{keys_in}
-use Rattle.passes.specs.declared.{PassRule.PassRule, BoundAfter.BoundAfter}
+use Rattle.passes.specs.declared.{Direction.Direction, PassRule.PassRule, BoundAfter.BoundAfter}
 use Rattle.passes.specs.declared.BoundAfter.TheVariants.{BelowTaken, Fixed}
-use Rattle.passes.specs.Passes.{Ask, below, side_of, pass}
+use Rattle.passes.specs.Passes.{Ask, Progress, below, takes_key}
 
 -- The place of the key that comes after i others.
-abbrev pub place_of : Bool → ℕ → ℕ → ℕ
-place_of up num i = cond up (num - 1 - i) i
+abbrev pub place_of : Direction → ℕ → ℕ → ℕ
+place_of Direction.Down num i = i
+place_of Direction.Up num i = num - 1 - i
 
 -- ---- what a pass asks
 
@@ -36,32 +35,12 @@ pub record SameAsk (a b : Ask) : Type 0 where
   pub same_start : a.start ≡ b.start
   pub same_after : (layer : ℕ) → a.after layer ≡ b.after layer
 
--- ---- what a pass leaves
+-- ---- what a pass does
 
--- Both arrays have their lengths, and the list has room for each key of the side that the pass takes.
-pub record PassRoom (pics : List ℕ) (num : ℕ) (list : List ℕ) (from cnt : ℕ) (rule : PassRule) (up : Bool) : Type 0 where
-  pub keys_long : length pics ≡ slots
-  pub list_long : length list ≡ list_places + list_places
-  pub few : num ≤ slots
-  pub starts : from ≤ list_places
-  pub room : cnt + count_if (side_of up rule.poc) (keys_in num pics) ≤ list_places
+-- One step from so many entries and a bound: the bound after a picture that is taken.
+abbrev pub pass_step : Ask → Direction → ℕ → ℕ → Key → Option ℕ
+pass_step a way cnt bound k = cond (takes_key a way cnt bound k) (Some (a.after k.layer)) None
 
--- The first `n` entries from `from` on are the list after the pass; what stands before them is untouched.
-pub record PassDone (n : ℕ) (ks : List Key) (before after : List ℕ) (from cnt : ℕ) (rule : PassRule) (up : Bool) : Type 0 where
-  pub comes_to : keys_in n (drop from after) ≡ pass (ask_in rule) up ks (keys_in cnt (drop from before))
-  pub kept : take from after ≡ take from before
-  pub list_long : length after ≡ list_places + list_places
-  pub counted : n ≤ cnt + count_if (side_of up rule.poc) ks
-
-pub record PassesRoom (pics : List ℕ) (num : ℕ) (list : List ℕ) (from : ℕ) : Type 0 where
-  pub keys_long : length pics ≡ slots
-  pub list_long : length list ≡ list_places + list_places
-  pub few : num ≤ list_places
-  pub starts : from ≤ list_places
-
--- The same of the passes of one list.
-pub record PassesDone (n : ℕ) (wanted : List Key) (num : ℕ) (before after : List ℕ) (from : ℕ) : Type 0 where
-  pub comes_to : keys_in n (drop from after) ≡ wanted
-  pub kept : take from after ≡ take from before
-  pub list_long : length after ≡ list_places + list_places
-  pub counted : n ≤ num
+-- How far a pass has come: the list so far as its keys stand, and the bound.
+abbrev pub progress_in : List ℕ → ℕ → Progress
+progress_in list bound = record { list = keys_in list; bound = bound }

@@ -1,5 +1,6 @@
 -- What is given where something does not fit and where all does. Assumes nothing.
 use Rattle.std.specs.Prelude.{Option}
+use Rattle.std.proofs.Common.{Result, Ok, Err}
 use Prim.Native.Nat.{ℕ}
 use mathlib.Core.Path.{◌≡◌, sym}
 use mathlib.Core.Bool.{Bool, true, false}
@@ -13,7 +14,8 @@ use Rattle.keys.specs.declared.Rest.{Rest}
 use Rattle.registers.specs.Registers.{registers_length}
 use Rattle.whole.specs.Whole.{whole}
 use Rattle.line.specs.declared.Call.{Call}
-use Rattle.reasons.specs.declared.WhyAnswer.{WhyAnswer}
+use Rattle.line.specs.declared.{Line.Line}
+use Rattle.reasons.specs.declared.Reason.{Reason}
 use Rattle.reasons.specs.Reasons.{why_whole, why}
 use Rattle.std.specs.Prelude.{Option}
 use Rattle.questions.specs.Asked.{question_in, reason_length, why_asked, bad_why, if_fits}
@@ -32,7 +34,7 @@ module _ (fit : Bool) (pm : EvcPm) (line : Option Call) (slot : ℕ) (reason : L
 -- ---- the state that slices stand for
 
 module _ (keys rows : List ℕ) {rest is : Rest} (c : RefpCall) (slot : ℕ) (same : rest ≡ is) where
-  pub not-whole-why : whole (stands keys rows rest) ≡ false → WhyAnswer.Refused Refusal.StateNotWhole ≡ why (stands keys rows is) c slot
+  pub not-whole-why : whole (stands keys rows rest) ≡ false → Err Refusal.StateNotWhole ≡ why (stands keys rows is) c slot
   unfolding why
   not-whole-why w = rw (sym same, w)
 

@@ -1,5 +1,6 @@
 -- A refusal writes nothing. Assumes nothing.
 use Rattle.std.specs.Prelude.{Option}
+use Rattle.std.proofs.Common.{Result, Ok, Err}
 use Prim.Native.Nat.{ℕ, ◌≤◌}
 use mathlib.Core.Path.{◌≡◌, refl}
 use mathlib.Core.Bool.{Bool, true, false, cond, ◌&&◌}
@@ -12,16 +13,17 @@ use Rattle.def.specs.declared.EvcPm.{EvcPm}
 use Rattle.line.specs.declared.Call.{Call}
 use Rattle.line.specs.Calls.{call_from}
 use Rattle.image.specs.Image.{pm_of, is_image}
-use Rattle.reasons.specs.declared.WhyAnswer.{WhyAnswer}
+use Rattle.def.specs.declared.Refusal.{Refusal}
+use Rattle.reasons.specs.declared.Reason.{Reason}
 use Rattle.reasons.specs.Reasons.{why}
 use Rattle.machine.specs.Lent.{machine_at, sized}
 use Rattle.std.specs.Prelude.{Option, Some, None}
 use Rattle.questions.specs.Asked.{question_in, reason_length, shown_why, why_asked, bad_why, if_fits, why_of_image, why_of_slices}
 use Rattle.questions.specs.Claims.{ImageWhyKept, SlicesWhyKept}
 
-shown-kept : (a : WhyAnswer) (reason : List ℕ) → 1 ≤ (shown_why a reason).given → (shown_why a reason).reason ≡ reason
-shown-kept (WhyAnswer.Told r) reason h = absurd (omega arith)
-shown-kept (WhyAnswer.Refused r) reason h = refl
+shown-kept : (a : Result Reason Refusal) (reason : List ℕ) → 1 ≤ (shown_why a reason).given → (shown_why a reason).reason ≡ reason
+shown-kept (Ok r) reason h = absurd (omega arith)
+shown-kept (Err r) reason h = refl
 
 asked-kept : (pm : EvcPm) (q : Option RefpCall) (slot : ℕ) (reason : List ℕ) → 1 ≤ (why_asked pm q slot reason).given → (why_asked pm q slot reason).reason ≡ reason
 asked-kept pm (Some c) slot reason h = shown-kept (why pm c slot) reason h

@@ -1,14 +1,13 @@
 -- The question why as bytes: the bytes of a list call's line and a slot, of the state of an image or of the running machine. What is given, and
 -- the two lent bytes as they are left.
 -- Assumes nothing.
-use Rattle.std.specs.Prelude.{ℕ, Bool, cond, ◌&&◌, List, [], ◌∷◌, eqb, length, Option, Some, None}
+use Rattle.std.specs.Prelude.{ℕ, Bool, cond, ◌&&◌, List, [], ◌∷◌, eqb, length, Option, Some, None, Result, Ok, Err}
 use Rattle.def.specs.Refusals.{refusal_number}
 use Rattle.def.specs.declared.{EvcPm.EvcPm, RefpCall.RefpCall, Refusal.Refusal}
 use Rattle.line.specs.declared.{Call.Call}
-use Rattle.line.specs.declared.Call.{Call}
 use Rattle.line.specs.Calls.{call_from}
 use Rattle.image.specs.Image.{pm_of, is_image}
-use Rattle.reasons.specs.declared.{Reason.Reason, WhyAnswer.WhyAnswer}
+use Rattle.reasons.specs.declared.Reason.{Reason}
 use Rattle.reasons.specs.Reasons.{why}
 use Rattle.machine.specs.Step.{refp_call_of}
 use Rattle.machine.specs.Lent.{Slices, machine_at, sized}
@@ -65,9 +64,9 @@ abbrev pub reason_bytes : Reason → List ℕ
 reason_bytes r = reason_number r ∷ place_told r ∷ []
 
 -- 0 with the reason; a refusal writes nothing.
-abbrev pub shown_why : WhyAnswer → List ℕ → WhyLeft
-shown_why (WhyAnswer.Told r) reason = why_left 0 (reason_bytes r)
-shown_why (WhyAnswer.Refused r) reason = why_left (refusal_number r) reason
+abbrev pub shown_why : Result Reason Refusal → List ℕ → WhyLeft
+shown_why (Ok r) reason = why_left 0 (reason_bytes r)
+shown_why (Err r) reason = why_left (refusal_number r) reason
 
 abbrev pub bad_why : List ℕ → WhyLeft
 bad_why reason = why_left (refusal_number Refusal.BadLine) reason

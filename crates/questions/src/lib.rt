@@ -12,7 +12,7 @@ use def::{RefpCall, Refusal};
 use line::Call;
 use machine::fields::refp_call_of;
 use parsing::read_call;
-use reasons::{Reason, WhyAnswer};
+use reasons::Reason;
 
 pub const REASON_LENGTH: usize = 2;
 
@@ -68,15 +68,11 @@ fn place_told(told: Reason) -> u8
     }
 }
 
-pub fn show_why(reason: &mut [u8], answer: WhyAnswer) -> Result<(), Refusal>
+pub fn show_why(reason: &mut [u8], answer: Result<Reason, Refusal>) -> Result<(), Refusal>
     requires { length reason.old ≡ reason_length }
     ensures { why_left (status result) reason.new ≡ shown_why answer reason.old }
 {
-    match answer {
-        WhyAnswer::Told(told) => {
-            reason.copy_from_slice(&[reason_number(told), place_told(told)]);
-            Ok(())
-        }
-        WhyAnswer::Refused(why) => Err(why),
-    }
+    let told = answer?;
+    reason.copy_from_slice(&[reason_number(told), place_told(told)]);
+    Ok(())
 }

@@ -1,3 +1,2 @@
-mod Reaching
+mod Front
 mod Judging
-mod Beginning

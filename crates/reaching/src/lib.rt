@@ -1,96 +1,74 @@
-// How far the passes of a list have come when a picture has its turn, and the reason for the picture there, for crate `one_slot`. Each step of a
-// pass is `pass_step`.
+// How far the passes of a list have come when a picture has its turn, and the reason for the picture there, for crate `one_slot`.
 #![tactic(auto)]
 
-ghost use Rattle.std.specs.Prelude.{◌≡◌, true, List, ℕ, ◌<◌};
-ghost use Rattle.def.specs.State.{slots};
+ghost use Rattle.std.specs.Prelude.{◌≡◌, true, List, ℕ, ◌<◌, ◌≤◌, length};
+ghost use Rattle.def.specs.State.{slots, list_places};
 ghost use Rattle.keys.specs.Keys.{slot_at};
 ghost use Rattle.ordering.specs.Order.{key_of};
-ghost use Rattle.ordering.specs.InNumbers.{keys_in};
-ghost use Rattle.passes.specs.InNumbers.{PassesRoom};
-ghost use Rattle.reasons.specs.Reasons.{judged_at};
-ghost use Rattle.reaching.specs.Told.{WalkRoom, Reaches, Begins};
+ghost use Rattle.ordering.specs.InNumbers.{key_in, keys_in};
+ghost use Rattle.passes.specs.Passes.{walked};
+ghost use Rattle.passes.specs.InNumbers.{ask_in};
+ghost use Rattle.reasons.specs.Reasons.{turn_of, in_front, begun, judged_at};
 
 use choosing::is_b;
 use def::RefpCall;
-use keys::{PLACES, SLOTS};
-use one_step::{on_side, pass_step, place_of};
 use ordering::{LAYER_UNIT, order_key};
-use passes::{PassRule, Walk};
+use passes::{Direction, PassRule, RefList, Walk, list_of, pass};
 use reasons::Reason;
 use ruling::rule_of;
-use walking::passes;
-use weighing::{Reached, judge};
+use weighing::judge;
 
-// The entries that the list has where a pass begins: none downwards, and upwards those that the pass down left.
-fn begun(
-    pic_ref: &[u64; SLOTS],
-    num: usize,
-    list: &mut [u64; PLACES],
-    rule: PassRule,
-    up: bool,
-) -> usize
-    requires { PassesRoom pic_ref.now num list.old 0 }
-    ensures { Begins result pic_ref.now num list.new rule up }
+// In which pass a picture has its turn.
+fn turn_of(rule: &PassRule, both: bool, key: u64) -> Direction
+    ensures { result ≡ turn_of both rule.now.poc (key_in key) }
 {
-    if up {
-        passes(pic_ref, num, list, 0, rule, Walk::Down)
+    if both & rule.is_on_side(Direction::Up, key) {
+        Direction::Up
     } else {
-        0
+        Direction::Down
     }
 }
 
-// How far a pass over the first `num` keys, on a list of `cnt` entries, has come when the picture of a slot has its turn.
-fn at_turn(
-    pic_ref: &[u64; SLOTS],
-    num: usize,
-    rule: PassRule,
-    up: bool,
-    cnt: usize,
-    slot: u64,
-) -> Reached
-    requires { WalkRoom pic_ref.now num cnt }
-    ensures { Reaches result pic_ref.now num rule up cnt slot }
+// The list where a pass begins: none downwards, and upwards the one that the pass down left.
+fn begun(ordered: &[u64], list: &mut RefList, rule: &PassRule, way: Direction)
+    requires { length ordered.now ≤ list_places }
+    ensures { keys_in list.new.items ≡ begun (ask_in rule.now) way (keys_in ordered.now) }
 {
-    let mut taken = cnt;
-    let mut bound = rule.start;
-    let mut i: usize = 0;
-    while i < num {
-        let key = pic_ref[place_of(num, i, up)];
-        if key % LAYER_UNIT == slot {
-            return Reached { cnt: taken, bound };
-        }
-        let turn = pass_step(rule, up, taken, bound, key);
-        bound = turn.bound;
-        if turn.taken {
-            taken = taken + 1;
-            i = i + 1;
-        } else {
-            i = i + 1;
-        }
+    match way {
+        Direction::Down => list.clear(),
+        Direction::Up => list_of(ordered, list, rule, Walk::Down),
     }
-    Reached { cnt: taken, bound }
 }
 
-// The reason for the picture of a marked slot, on the first `num` keys, which stand in order.
-pub fn reason_of(
-    pic_ref: &[u64; SLOTS],
-    num: usize,
-    list: &mut [u64; PLACES],
-    call: RefpCall,
-    key: u64,
-    slot: usize,
-) -> Reason
-    requires { PassesRoom pic_ref.now num list.old 0 × (slot < slots) }
-    ensures { let ordered = keys_in num pic_ref.now in
-        ((rows : List ℕ) → result ≡ judged_at call true ordered (key_of slot (slot_at rows key))) }
+// The keys that come before that of a slot in a pass; all of them, where it is not among them.
+fn in_front(ordered: &[u64], slot: u64, way: Direction) -> &[u64]
+    ensures { walked way (keys_in result.now) ≡ in_front slot (walked way (keys_in ordered.now)) }
+{
+    match way {
+        Direction::Down => match ordered.iter().position(|key| *key % LAYER_UNIT == slot) {
+            Some(at) => &ordered[..at],
+            None => ordered,
+        },
+        Direction::Up => match ordered.iter().rposition(|key| *key % LAYER_UNIT == slot) {
+            Some(at) => &ordered[at + 1..],
+            None => ordered,
+        },
+    }
+}
+
+// The reason for the picture of a marked slot, on the ordered keys.
+pub fn reason_of(ordered: &[u64], call: RefpCall, key: u64, slot: usize) -> Reason
+    requires few { length ordered.now ≤ list_places }
+    requires slot_below { slot < slots }
+    ensures { (rows : List ℕ) → result ≡ judged_at call true (keys_in ordered.now) (key_of slot (slot_at rows key)) }
 {
     let rule = rule_of(call);
-    let slice_type = call.slice_type;
-    let both = is_b(slice_type);
-    let ordered = order_key(key, slot);
-    let up = both & on_side(ordered, rule.poc, true);
-    let cnt = begun(pic_ref, num, list, rule, up);
-    let reached = at_turn(pic_ref, num, rule, up, cnt, slot as u64);
-    judge(rule, both, up, reached, ordered)
+    let both = is_b(call.slice_type);
+    let wanted = order_key(key, slot);
+    let way = turn_of(&rule, both, wanted);
+    let mut list = RefList::new();
+    begun(ordered, &mut list, &rule, way);
+    let front = in_front(ordered, slot as u64, way);
+    let bound = pass(front, &mut list, &rule, way);
+    judge(&rule, both, way, list.len(), bound, wanted)
 }

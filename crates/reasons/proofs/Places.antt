@@ -19,6 +19,7 @@ use Rattle.whole.specs.Whole.{whole, leases}
 use Rattle.whole.proofs.Laws.{whole-rules}
 use Rattle.ordering.specs.Order.{Key, key_of, down, MarkedKey}
 use Rattle.ordering.proofs.OrderLaws.{down-members, down-distinct}
+use Rattle.passes.specs.declared.Direction.{Direction}
 use Rattle.passes.specs.Passes.{walked, takes_key}
 use Rattle.ruling.specs.Rules.{ask_of}
 use Rattle.passes.proofs.Walked.{walked-mem}
@@ -29,7 +30,7 @@ use Rattle.refp.specs.Claims.{Built}
 use Rattle.refp.proofs.ListLaws.{lists-built}
 use Rattle.reasons.specs.declared.{Reason.Reason}
 use Rattle.reasons.specs.Reasons.{key_at}
-use Rattle.reasons.specs.Claims.{AskedOf, goes_up, come_to, Condition, InForward, TakenExactly, BufferTells}
+use Rattle.reasons.specs.Claims.{AskedOf, way_of, come_to, Condition, InForward, TakenExactly, BufferTells}
 use Rattle.reasons.proofs.Refusing.{is_whole}
 use Rattle.reasons.proofs.Row.{each-exactly}
 use Rattle.reasons.proofs.Turns.{Stands, stands-in, forward_on, forward-on, at_place, nowhere}
@@ -87,9 +88,9 @@ one-buffer pm i j w t s e =
     (subst (Distinct {A = ℕ}) split (whole-rules pm w).buffers_differ))
     t s e
 
-mem-walked : {k : Key} (up : Bool) (ks : List Key) → Memᴰ k ks → Memᴰ k (walked up ks)
-mem-walked {k} true ks m = mem-reverse (reverse ks) (subst (Memᴰ k) (sym (reverse-reverse ks)) m)
-mem-walked false ks m = m
+mem-walked : {k : Key} (way : Direction) (ks : List Key) → Memᴰ k ks → Memᴰ k (walked way ks)
+mem-walked {k} Direction.Up ks m = mem-reverse (reverse ks) (subst (Memᴰ k) (sym (reverse-reverse ks)) m)
+mem-walked Direction.Down ks m = m
 
 -- ---- the key of a marked slot stands in the order, and no other key has its slot
 
@@ -100,8 +101,8 @@ module _ (xs : List Slot) (slot : ℕ) (marked : is_marked (get_or xs slot no_sl
   only-key : (h : Key) → Memᴰ h (down xs) → h.slot ≡ slot → h ≡ key_at xs slot
   only-key h m e = ((down-members xs h).0 m).key ∙ (λ i. key_of (e i) (get_or xs (e i) no_slot))
 
-  standing : (up : Bool) → Stands slot (key_at xs slot) (walked up (down xs))
-  standing up = stands-in refl (walked up (down xs)) (λ h m. only-key h (walked-mem up (down xs) m)) (mem-walked up (down xs) in_order)
+  standing : (way : Direction) → Stands slot (key_at xs slot) (walked way (down xs))
+  standing way = stands-in refl (walked way (down xs)) (λ h m. only-key h (walked-mem way (down xs) m)) (mem-walked way (down xs) in_order)
 
 -- ---- the built list
 
@@ -116,7 +117,7 @@ module _ (pm : EvcPm) (refp : List EvcRefP) (c : RefpCall) (slot : ℕ) (long : 
   place = length (come_to c pm.pic slot).list
 
   abbrev takes : Bool
-  takes = takes_key (ask_of c) (goes_up c pm.pic slot) place (come_to c pm.pic slot).bound key
+  takes = takes_key (ask_of c) (way_of c pm.pic slot) place (come_to c pm.pic slot).bound key
 
   forward_is : built.fwd ≡ forward_on (ask_of c) (is_b c.slice_type) (down pm.pic)
   forward_is = sym built.of_passes.forward_is ∙ forward-on c (down pm.pic)
@@ -127,7 +128,7 @@ module _ (pm : EvcPm) (refp : List EvcRefP) (c : RefpCall) (slot : ℕ) (long : 
   -- what is taken at its turn stands at that place
   stands-there : is_marked (get_or pm.pic slot no_slot) ≡ true → takes ≡ true → (place < length built.fwd) × (get_or built.fwd place key ≡ key)
   stands-there m t =
-      let s = at_place (ask_of c) (down pm.pic) (standing pm.pic slot m) (is_b c.slice_type) (goes_up c pm.pic slot) refl t in
+      let s = at_place (ask_of c) (down pm.pic) (standing pm.pic slot m) (is_b c.slice_type) (way_of c pm.pic slot) refl t in
       let e = forward_is ∙ s.1 in (
         (let n = ap length e ∙ length-append (come_to c pm.pic slot).list (key ∷ s.0) in omega arith),
         rw e (get_or-append_seam (come_to c pm.pic slot).list key s.0 key),
@@ -173,7 +174,7 @@ module _ (pm : EvcPm) (refp : List EvcRefP) (c : RefpCall) (slot : ℕ) (long : 
         pick true t = t
         pick false t =
             absurd (nowhere (ask_of c) (down pm.pic) (standing pm.pic slot is-marked) (down-distinct pm.pic) (is_b c.slice_type)
-            (goes_up c pm.pic slot) refl t
+            (way_of c pm.pic slot) refl t
             (subst (Memᴰ key) forward_is (subst (λ (k : Key). Memᴰ k built.fwd) is_key at-n-mem)))
 
     at-its-turn : Condition c pm.pic slot (Reason.Taken n)

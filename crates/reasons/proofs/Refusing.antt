@@ -1,4 +1,5 @@
 -- How an answer ends: turned down as the list call is, no list asked, or judged; and then 14 or the reason. Assumes nothing.
+use Rattle.std.proofs.Common.{Result, Ok, Err}
 use mathlib.Core.Path.{◌≡◌, refl, sym, ap, ◌∙◌, subst}
 use mathlib.Core.Bool.{Bool, true, false, cond, not}
 use mathlib.Core.Bool as Bool
@@ -16,18 +17,18 @@ use Rattle.choosing.specs.Choice.{Chosen, turned_down, chosen, choice}
 use Rattle.refp.specs.Lists.{lists_chosen, is_i, lists_whole, lists}
 use Rattle.refp.specs.Claims.{Asked, ListsReason, not_whole, too_high}
 use Rattle.refp.proofs.ListLaws.{lists-why}
-use Rattle.reasons.specs.declared.{Reason.Reason, WhyAnswer.WhyAnswer}
+use Rattle.reasons.specs.declared.Reason.{Reason}
 use Rattle.reasons.specs.Reasons.{reason_for, of_slot, if_chosen, why_whole, why}
 use Rattle.reasons.specs.Claims.{WhyRefusal, of_lists, no_picture, WhyRefused, AskedOf}
 
 not-counts : {f b : ℕ} {r : Refusal} → Answer.Counts f b ≡ Answer.Refused r → ⊥
 not-counts e = let z : ◌≡◌ {A = ℕ} 0 1 = cc in omega arith
 
-pub told-refused : {r : Reason} {q : Refusal} → WhyAnswer.Told r ≡ WhyAnswer.Refused q → ⊥
+pub told-refused : {r : Reason} {q : Refusal} → Ok r ≡ Err q → ⊥
 told-refused e = let z : ◌≡◌ {A = ℕ} 0 1 = cc in omega arith
 
-pub data WhyEnd (pm : EvcPm) (c : RefpCall) (slot : ℕ) : WhyAnswer → Type 0 where
-  turned-away : (r : Refusal) → ListsReason pm c r → WhyEnd pm c slot (WhyAnswer.Refused r)
+pub data WhyEnd (pm : EvcPm) (c : RefpCall) (slot : ℕ) : Result Reason Refusal → Type 0 where
+  turned-away : (r : Refusal) → ListsReason pm c r → WhyEnd pm c slot (Err r)
   for-i : whole pm ≡ true → c.poc ≤ highest_poc → is_i c.slice_type ≡ true → WhyEnd pm c slot (of_slot pm.pic slot Reason.NoListAsked)
   judges : Asked pm c → (fwd bwd : List Key) → choice c (down pm.pic) ≡ chosen fwd bwd
       → WhyEnd pm c slot (of_slot pm.pic slot (reason_for c pm.pic slot))
@@ -47,7 +48,7 @@ module _ (pm : EvcPm) (c : RefpCall) (slot : ℕ) where
   why-end = pick (whole pm) refl (ltb highest_poc c.poc) refl (is_i c.slice_type) refl
     where
       pick : (w : Bool) → whole pm ≡ w → (h : Bool) → ltb highest_poc c.poc ≡ h → (i : Bool) → is_i c.slice_type ≡ i
-          → WhyEnd pm c slot (cond (not w) (WhyAnswer.Refused Refusal.StateNotWhole) (cond h (WhyAnswer.Refused Refusal.NumberTooHigh)
+          → WhyEnd pm c slot (cond (not w) (Err Refusal.StateNotWhole) (cond h (Err Refusal.NumberTooHigh)
           (cond i (of_slot pm.pic slot Reason.NoListAsked) (if_chosen (choice c (down pm.pic)) (of_slot pm.pic slot (reason_for c pm.pic slot))))))
       pick false w h e i f = turned-away Refusal.StateNotWhole (not_whole w)
       pick true w true e i f = turned-away Refusal.NumberTooHigh (too_high w (ltb-true highest_poc c.poc e))
@@ -72,37 +73,37 @@ module _ (pm : EvcPm) (c : RefpCall) (slot : ℕ) where
   -- ---- refused
 
   slot-refused : (told : Reason) {r : Refusal} → ((q : Refusal) → ListsReason pm c q → ⊥) → (b : Bool) → is_present (get_or pm.pic slot no_slot) ≡ b
-      → cond b (WhyAnswer.Told told) (WhyAnswer.Refused Refusal.NoSuchPlace) ≡ WhyAnswer.Refused r → WhyRefusal pm c slot r
+      → cond b (Ok told) (Err Refusal.NoSuchPlace) ≡ Err r → WhyRefusal pm c slot r
   slot-refused told none true b e = absurd (told-refused e)
   slot-refused told {r = r} none false b e = let q : Refusal.NoSuchPlace ≡ r = cc in subst (WhyRefusal pm c slot) q (no_picture none b)
 
-  refused_why : {r : Refusal} {a : WhyAnswer} → WhyEnd pm c slot a → a ≡ WhyAnswer.Refused r → WhyRefusal pm c slot r
+  refused_why : {r : Refusal} {a : Result Reason Refusal} → WhyEnd pm c slot a → a ≡ Err r → WhyRefusal pm c slot r
   refused_why {r} (turned-away q k) e = let s : q ≡ r = cc in of_lists (subst (ListsReason pm c) s k)
   refused_why (for-i w h i) e = slot-refused Reason.NoListAsked (none-for-i w h i) (is_present (get_or pm.pic slot no_slot)) refl e
   refused_why (judges a fwd bwd g) e = slot-refused (reason_for c pm.pic slot) (none-judged a fwd bwd g) (is_present (get_or pm.pic slot no_slot)) refl e
 
-  away : {r : Refusal} {a : WhyAnswer} → ListsReason pm c r → WhyEnd pm c slot a → a ≡ WhyAnswer.Refused r
-  away k (turned-away q l) = ap WhyAnswer.Refused (same-reason l k)
+  away : {r : Refusal} {a : Result Reason Refusal} → ListsReason pm c r → WhyEnd pm c slot a → a ≡ Err r
+  away k (turned-away q l) = ap Err (same-reason l k)
   away k (for-i w h i) = absurd (none-for-i w h i _ k)
   away k (judges a fwd bwd g) = absurd (none-judged a fwd bwd g _ k)
 
-  empty : {a : WhyAnswer} → ((r : Refusal) → ListsReason pm c r → ⊥) → is_present (get_or pm.pic slot no_slot) ≡ false → WhyEnd pm c slot a
-      → a ≡ WhyAnswer.Refused Refusal.NoSuchPlace
+  empty : {a : Result Reason Refusal} → ((r : Refusal) → ListsReason pm c r → ⊥) → is_present (get_or pm.pic slot no_slot) ≡ false → WhyEnd pm c slot a
+      → a ≡ Err Refusal.NoSuchPlace
   empty none b (turned-away q l) = absurd (none q l)
   empty none b (for-i w h i) = rw b
   empty none b (judges a fwd bwd g) = rw b
 
-  pub why-refuses : {r : Refusal} → WhyRefusal pm c slot r → why pm c slot ≡ WhyAnswer.Refused r
+  pub why-refuses : {r : Refusal} → WhyRefusal pm c slot r → why pm c slot ≡ Err r
   why-refuses (of_lists k) = away k why-end
   why-refuses (no_picture none b) = empty none b why-end
 
   -- ---- told
 
   -- a picture of an accepted call other than for slice I is judged
-  pub is-judged : {refp : List EvcRefP} → AskedOf pm refp c slot → why pm c slot ≡ WhyAnswer.Told (reason_for c pm.pic slot)
+  pub is-judged : {refp : List EvcRefP} → AskedOf pm refp c slot → why pm c slot ≡ Ok (reason_for c pm.pic slot)
   is-judged {refp} q = pick why-end
     where
-      pick : {a : WhyAnswer} → WhyEnd pm c slot a → a ≡ WhyAnswer.Told (reason_for c pm.pic slot)
+      pick : {a : Result Reason Refusal} → WhyEnd pm c slot a → a ≡ Ok (reason_for c pm.pic slot)
       pick (turned-away r k) = absurd (not-counts (sym q.accepted ∙ (lists-why pm refp c r).1 k))
       pick (for-i w h i) = absurd (Bool.true≢false (sym i ∙ q.not_i))
       pick (judges a fwd bwd g) = rw q.occupied
@@ -110,7 +111,7 @@ module _ (pm : EvcPm) (c : RefpCall) (slot : ℕ) where
   pub is_whole : {refp : List EvcRefP} → AskedOf pm refp c slot → whole pm ≡ true
   is_whole {refp} q = pick why-end
     where
-      pick : {a : WhyAnswer} → WhyEnd pm c slot a → whole pm ≡ true
+      pick : {a : Result Reason Refusal} → WhyEnd pm c slot a → whole pm ≡ true
       pick (turned-away r k) = absurd (not-counts (sym q.accepted ∙ (lists-why pm refp c r).1 k))
       pick (for-i w h i) = w
       pick (judges a fwd bwd g) = a.is_whole

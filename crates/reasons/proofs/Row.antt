@@ -1,4 +1,5 @@
 -- The reason that is given is the earliest of the row, and no other is. Assumes nothing.
+use Rattle.std.proofs.Common.{Result, Ok, Err}
 use mathlib.Core.Path.{◌≡◌, refl, sym, ap, ◌∙◌, subst}
 use mathlib.Core.Bool.{Bool, true, false, cond, not, ◌&&◌}
 use mathlib.Core.Bool as Bool
@@ -13,12 +14,13 @@ use Rattle.def.specs.State.{highest_poc, no_slot, is_present, is_marked}
 use Rattle.def.specs.declared.{Slot.Slot, RefpCall.RefpCall, Refusal.Refusal}
 use Rattle.whole.specs.Whole.{whole}
 use Rattle.ordering.specs.Order.{Key}
+use Rattle.passes.specs.declared.Direction.{Direction}
 use Rattle.passes.specs.Passes.{Ask, side_of, takes_key}
 use Rattle.ruling.specs.Rules.{ask_of}
 use Rattle.choosing.specs.Choice.{is_b}
 use Rattle.refp.specs.Lists.{is_i}
-use Rattle.reasons.specs.declared.{Reason.Reason, WhyAnswer.WhyAnswer}
-use Rattle.reasons.specs.Reasons.{turns_up, other_side, judged_at, key_at, reason_for}
+use Rattle.reasons.specs.declared.Reason.{Reason}
+use Rattle.reasons.specs.Reasons.{turn_of, other_side, judged_at, key_at, reason_for}
 use Rattle.reasons.specs.Claims.{AskedOfI, NoListExactly, Condition, row_place, Earliest, EachExactly, come_to}
 use Rattle.reasons.proofs.Refusing.{WhyEnd, turned-away, for-i, judges, told-refused, why-end, none-for-i, is-judged}
 
@@ -34,22 +36,22 @@ reason_from (suc (suc (suc (suc (suc (suc zero)))))) n = Reason.LayerOverBound
 reason_from (suc (suc (suc (suc (suc (suc (suc m))))))) n = Reason.NoListAsked
 
 -- a picture of another number that is on no other side is on the side of the pass in which it has its turn
-side-taken : (both : Bool) (poc : ℕ) (k : Key) → (k.poc ≡ poc → ⊥) → other_side both poc k ≡ false → side_of (turns_up both poc k) poc k ≡ true
+side-taken : (both : Bool) (poc : ℕ) (k : Key) → (k.poc ≡ poc → ⊥) → other_side both poc k ≡ false → side_of (turn_of both poc k) poc k ≡ true
 side-taken false poc k other side = lt-ltb k.poc poc (let l = ltb-false poc k.poc side in omega (arith, other))
 side-taken true poc k other side = pick (ltb poc k.poc) refl
   where
-    pick : (h : Bool) → ltb poc k.poc ≡ h → cond h (ltb poc k.poc) (ltb k.poc poc) ≡ true
+    pick : (h : Bool) → ltb poc k.poc ≡ h → side_of (cond h Direction.Up Direction.Down) poc k ≡ true
     pick true h = h
     pick false h = lt-ltb k.poc poc (let l = ltb-false poc k.poc h in omega (arith, other))
 
 -- what is neither full, old, of the same number nor on another side, and is not taken, has its layer over the bound
-layer-left : (a : Ask) (both : Bool) (cnt bound : ℕ) (k : Key) → takes_key a (turns_up both a.poc k) cnt bound k ≡ false → cnt < a.limit → a.old k ≡ false
+layer-left : (a : Ask) (both : Bool) (cnt bound : ℕ) (k : Key) → takes_key a (turn_of both a.poc k) cnt bound k ≡ false → cnt < a.limit → a.old k ≡ false
     → (k.poc ≡ a.poc → ⊥) → other_side both a.poc k ≡ false → bound < k.layer
 layer-left a both cnt bound k t room young other side = pick (leb k.layer bound) refl
   where
     pick : (w : Bool) → leb k.layer bound ≡ w → bound < k.layer
     pick true w =
-        let e : takes_key a (turns_up both a.poc k) cnt bound k ≡ true = rw (lt-ltb cnt a.limit room, young, side-taken both a.poc k other side, w) in
+        let e : takes_key a (turn_of both a.poc k) cnt bound k ≡ true = rw (lt-ltb cnt a.limit room, young, side-taken both a.poc k other side, w) in
         absurd (Bool.true≢false (sym e ∙ t))
     pick false w = leb-false k.layer bound w
 
@@ -106,7 +108,7 @@ module _ (c : RefpCall) (xs : List Slot) (slot : ℕ) where
   -- ---- along the row
 
   abbrev takes : Bool
-  takes = takes_key ask (turns_up both c.poc key) cnt bound key
+  takes = takes_key ask (turn_of both c.poc key) cnt bound key
 
   abbrev by_side : Reason
   by_side = cond (other_side both c.poc key) Reason.OtherSide Reason.LayerOverBound
@@ -175,13 +177,13 @@ module _ (c : RefpCall) (xs : List Slot) (slot : ℕ) where
           let same : row_place r ≡ row_place q = omega arith in
           sym (placed r e.holds) ∙ ap (λ (n : ℕ). reason_from n cnt) same ∙ placed q f.holds
 
-same-told : {r q : Reason} → WhyAnswer.Told r ≡ WhyAnswer.Told q → r ≡ q
+same-told : {r q : Reason} → ◌≡◌ {A = Result Reason Refusal} (Ok r) (Ok q) → r ≡ q
 same-told e = cc
 
 pub each-exactly : EachExactly
 each-exactly pm refp c slot r asked = (
   λ e. subst (Earliest c pm.pic slot) (same-told (sym (is-judged pm c slot asked) ∙ e)) (earliest-given c pm.pic slot),
-  λ h. is-judged pm c slot asked ∙ ap WhyAnswer.Told (one-earliest c pm.pic slot _ r (earliest-given c pm.pic slot) h),
+  λ h. is-judged pm c slot asked ∙ ap {B = Result Reason Refusal} Ok (one-earliest c pm.pic slot _ r (earliest-given c pm.pic slot) h),
 )
 
 -- ---- slice I
@@ -190,21 +192,21 @@ pub no-list-exactly : NoListExactly
 no-list-exactly pm c slot = (asked (why-end pm c slot), λ a. told a (why-end pm c slot))
   where
     of-i : (b : Bool) → is_present (get_or pm.pic slot no_slot) ≡ b → whole pm ≡ true → c.poc ≤ highest_poc → is_i c.slice_type ≡ true
-        → cond b (WhyAnswer.Told Reason.NoListAsked) (WhyAnswer.Refused Refusal.NoSuchPlace) ≡ WhyAnswer.Told Reason.NoListAsked → AskedOfI pm c slot
+        → cond b (Ok Reason.NoListAsked) (Err Refusal.NoSuchPlace) ≡ Ok Reason.NoListAsked → AskedOfI pm c slot
     of-i true b w h i e = record { is_whole = w; number_fits = h; is_i = i; occupied = b }
     of-i false b w h i e = absurd (told-refused (sym e))
 
     not-judged : (b : Bool) → is_i c.slice_type ≡ false
-        → cond b (WhyAnswer.Told (reason_for c pm.pic slot)) (WhyAnswer.Refused Refusal.NoSuchPlace) ≡ WhyAnswer.Told Reason.NoListAsked → ⊥
+        → cond b (Ok (reason_for c pm.pic slot)) (Err Refusal.NoSuchPlace) ≡ Ok Reason.NoListAsked → ⊥
     not-judged true i e = Bool.true≢false (sym (subst (Earliest c pm.pic slot) (same-told e) (earliest-given c pm.pic slot)).holds ∙ i)
     not-judged false i e = told-refused (sym e)
 
-    asked : {a : WhyAnswer} → WhyEnd pm c slot a → a ≡ WhyAnswer.Told Reason.NoListAsked → AskedOfI pm c slot
+    asked : {a : Result Reason Refusal} → WhyEnd pm c slot a → a ≡ Ok Reason.NoListAsked → AskedOfI pm c slot
     asked (turned-away r k) e = absurd (told-refused (sym e))
     asked (for-i w h i) e = of-i (is_present (get_or pm.pic slot no_slot)) refl w h i e
     asked (judges a fwd bwd g) e = absurd (not-judged (is_present (get_or pm.pic slot no_slot)) a.not_i e)
 
-    told : {a : WhyAnswer} → AskedOfI pm c slot → WhyEnd pm c slot a → a ≡ WhyAnswer.Told Reason.NoListAsked
+    told : {a : Result Reason Refusal} → AskedOfI pm c slot → WhyEnd pm c slot a → a ≡ Ok Reason.NoListAsked
     told q (turned-away r k) = absurd (none-for-i pm c slot q.is_whole q.number_fits q.is_i r k)
     told q (for-i w h i) = rw q.occupied
     told q (judges a fwd bwd g) = absurd (Bool.true≢false (sym q.is_i ∙ a.not_i))

@@ -1,18 +1,20 @@
 -- What is claimed of the answer. Each claim has its proof under its own name: proofs/Refusing.antt, proofs/Row.antt, proofs/Places.antt,
 -- proofs/Limits.antt.
 -- Assumes nothing.
-use Rattle.std.specs.Prelude.{ℕ, ◌+◌, ◌≤◌, ◌<◌, ◌≡◌, Bool, true, false, List, ◌↔◌, length, take, get_or}
+use Rattle.std.specs.Prelude.{Ok, Err}
+use Rattle.std.specs.Prelude.{ℕ, ◌+◌, ◌≤◌, ◌<◌, ◌≡◌, true, false, List, ◌↔◌, length, take, get_or}
 use Rattle.def.specs.State.{list_places, highest_poc, no_slot, no_ref_p, is_present, is_marked}
 use Rattle.def.specs.declared.{Slot.Slot, EvcPm.EvcPm, EvcRefP.EvcRefP, RefpCall.RefpCall, RefpResult.RefpResult, Answer.Answer, Refusal.Refusal}
 use Rattle.whole.specs.Whole.{whole}
 use Rattle.ordering.specs.Order.{Key, down}
-use Rattle.passes.specs.Passes.{Progress, pass_step}
+use Rattle.passes.specs.declared.Direction.{Direction}
+use Rattle.passes.specs.Passes.{Progress, takes_key}
 use Rattle.ruling.specs.Rules.{ask_of}
 use Rattle.choosing.specs.Choice.{is_b, forward_of}
 use Rattle.refp.specs.Lists.{is_i, lists}
 use Rattle.refp.specs.Claims.{ListsReason}
-use Rattle.reasons.specs.declared.{Reason.Reason, WhyAnswer.WhyAnswer}
-use Rattle.reasons.specs.Reasons.{turns_up, at_turn, key_at, reason_for, why}
+use Rattle.reasons.specs.declared.Reason.{Reason}
+use Rattle.reasons.specs.Reasons.{turn_of, at_turn, key_at, reason_for, why}
 
 -- ---- what is turned down
 
@@ -22,7 +24,7 @@ pub data WhyRefusal (pm : EvcPm) (c : RefpCall) (slot : ℕ) : Refusal → Type 
   no_picture : ((r : Refusal) → ListsReason pm c r → ⊥) → is_present (get_or pm.pic slot no_slot) ≡ false → WhyRefusal pm c slot Refusal.NoSuchPlace
 
 abbrev pub WhyRefused : Type 0
-WhyRefused = (pm : EvcPm) (c : RefpCall) (slot : ℕ) (r : Refusal) → (why pm c slot ≡ WhyAnswer.Refused r) ↔ WhyRefusal pm c slot r
+WhyRefused = (pm : EvcPm) (c : RefpCall) (slot : ℕ) (r : Refusal) → (why pm c slot ≡ Err r) ↔ WhyRefusal pm c slot r
 
 -- ---- slice I
 
@@ -34,7 +36,7 @@ pub record AskedOfI (pm : EvcPm) (c : RefpCall) (slot : ℕ) : Type 0 where
 
 -- No list asked, exactly for slice I; neither limit nor marks play a part.
 abbrev pub NoListExactly : Type 0
-NoListExactly = (pm : EvcPm) (c : RefpCall) (slot : ℕ) → (why pm c slot ≡ WhyAnswer.Told Reason.NoListAsked) ↔ AskedOfI pm c slot
+NoListExactly = (pm : EvcPm) (c : RefpCall) (slot : ℕ) → (why pm c slot ≡ Ok Reason.NoListAsked) ↔ AskedOfI pm c slot
 
 -- ---- every other slice
 
@@ -46,19 +48,19 @@ pub record AskedOf (pm : EvcPm) (refp : List EvcRefP) (c : RefpCall) (slot : ℕ
   pub not_i : is_i c.slice_type ≡ false
   pub occupied : is_present (get_or pm.pic slot no_slot) ≡ true
 
--- Whether a slot's picture has its turn in the pass upwards, and how far its pass has come by then.
-abbrev pub goes_up : RefpCall → List Slot → ℕ → Bool
-goes_up c xs slot = turns_up (is_b c.slice_type) c.poc (key_at xs slot)
+-- In which pass a slot's picture has its turn, and how far its pass has come by then.
+abbrev pub way_of : RefpCall → List Slot → ℕ → Direction
+way_of c xs slot = turn_of (is_b c.slice_type) c.poc (key_at xs slot)
 
 abbrev pub come_to : RefpCall → List Slot → ℕ → Progress
-come_to c xs slot = at_turn (ask_of c) (goes_up c xs slot) slot (down xs)
+come_to c xs slot = at_turn (ask_of c) (way_of c xs slot) slot (down xs)
 
 -- The condition of each reason, at the picture's turn.
 abbrev pub Condition : RefpCall → List Slot → ℕ → Reason → Type 0
 Condition c xs slot (Reason.Taken n) =
     let p = come_to c xs slot in
     (is_marked (get_or xs slot no_slot) ≡ true)
-    × ((pass_step (ask_of c) (goes_up c xs slot) (length p.list) p.bound (key_at xs slot)).taken ≡ true)
+    × (takes_key (ask_of c) (way_of c xs slot) (length p.list) p.bound (key_at xs slot) ≡ true)
     × (n ≡ length p.list)
 Condition c xs slot Reason.NotMarked = is_marked (get_or xs slot no_slot) ≡ false
 Condition c xs slot Reason.Full = (ask_of c).limit ≤ length (come_to c xs slot).list
@@ -87,7 +89,7 @@ pub record Earliest (c : RefpCall) (xs : List Slot) (slot : ℕ) (r : Reason) : 
 -- A reason is given exactly if it is the earliest: so 'layer over the bound' is given only where the layer is over the bound.
 abbrev pub EachExactly : Type 0
 EachExactly = (pm : EvcPm) (refp : List EvcRefP) (c : RefpCall) (slot : ℕ) (r : Reason) → AskedOf pm refp c slot
-    → (why pm c slot ≡ WhyAnswer.Told r) ↔ Earliest c pm.pic slot r
+    → (why pm c slot ≡ Ok r) ↔ Earliest c pm.pic slot r
 
 -- ---- taken, by the list that the list call builds
 
@@ -102,13 +104,13 @@ pub record InForward (r : RefpResult) (n : ℕ) (s : Slot) : Type 0 where
 -- Taken at n exactly if n is below the forward count and entry n of the forward list is the slot's picture.
 abbrev pub TakenExactly : Type 0
 TakenExactly = (pm : EvcPm) (refp : List EvcRefP) (c : RefpCall) (slot n : ℕ) → length refp ≡ list_places + list_places → AskedOf pm refp c slot
-    → (why pm c slot ≡ WhyAnswer.Told (Reason.Taken n)) ↔ InForward (lists pm refp c) n (get_or pm.pic slot no_slot)
+    → (why pm c slot ≡ Ok (Reason.Taken n)) ↔ InForward (lists pm refp c) n (get_or pm.pic slot no_slot)
 
 -- The buffer number of the entry tells as much: pictures may share a number, and no two of a whole state share a buffer.
 abbrev pub BufferTells : Type 0
 BufferTells = (pm : EvcPm) (refp : List EvcRefP) (c : RefpCall) (slot n : ℕ) → length refp ≡ list_places + list_places → AskedOf pm refp c slot
     → n < (lists pm refp c).pm.num_refp_0 → (get_or (lists pm refp c).refp n no_ref_p).buf ≡ (get_or pm.pic slot no_slot).buf
-    → why pm c slot ≡ WhyAnswer.Told (Reason.Taken n)
+    → why pm c slot ≡ Ok (Reason.Taken n)
 
 -- ---- limits
 

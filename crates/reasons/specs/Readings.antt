@@ -1,15 +1,16 @@
 -- The smallest inputs that tell the readings of the request apart, with what is said of each: one list, one computed proof.
 -- Proof: proofs/Readings.antt.
 -- Assumes nothing.
+use Rattle.std.specs.Prelude.{Result, Ok, Err}
 use Rattle.std.specs.Prelude.{ℕ, ◌≡◌, Bool, true, false, List, [], ◌∷◌, map, pos, replicate}
 use Rattle.def.specs.State.{list_places, empty_slot, occupied_by, new_pm, with_store}
 use Rattle.def.specs.declared.{Slot.Slot, EvcPm.EvcPm, RefpCall.RefpCall, Refusal.Refusal, SliceType.SliceType}
-use Rattle.reasons.specs.declared.{Reason.Reason, WhyAnswer.WhyAnswer}
+use Rattle.reasons.specs.declared.Reason.{Reason}
 use Rattle.reasons.specs.Reasons.{why}
 
 pub record Reading : Type 0 where
-  pub given : WhyAnswer
-  pub said : WhyAnswer
+  pub given : Result Reason Refusal
+  pub said : Result Reason Refusal
 
 -- A picture of this number and layer in this buffer, marked or not.
 abbrev pub picture_in : ℕ → Bool → ℕ → ℕ → Slot
@@ -41,10 +42,10 @@ abbrev pub B : SliceType
 B = SliceType.EVC_ST_B
 
 abbrev pub reason_told : EvcPm → RefpCall → ℕ → Reason → Reading
-reason_told pm c slot r = record { given = why pm c slot; said = WhyAnswer.Told r }
+reason_told pm c slot r = record { given = why pm c slot; said = Ok r }
 
 abbrev pub refusal_told : EvcPm → RefpCall → ℕ → Refusal → Reading
-refusal_told pm c slot r = record { given = why pm c slot; said = WhyAnswer.Refused r }
+refusal_told pm c slot r = record { given = why pm c slot; said = Err r }
 
 -- Stored counts that do not match: not whole.
 abbrev pub broken_state : EvcPm

@@ -2,8 +2,6 @@
 // them, stands in specs/; crate `judging` finds the answer.
 #![tactic(auto)]
 
-use def::Refusal;
-
 // The earliest of these that holds is the answer, but for the last.
 #[derive(Clone, Copy)]
 pub enum Reason {
@@ -23,10 +21,4 @@ pub enum Reason {
     LayerOverBound,
     // No list asked: slice I.
     NoListAsked,
-}
-
-#[derive(Clone, Copy)]
-pub enum WhyAnswer {
-    Told(Reason),
-    Refused(Refusal),
 }

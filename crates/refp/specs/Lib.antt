@@ -1,4 +1,5 @@
 pub mod Lists
 pub mod Copy
 pub mod Running
+pub mod Answers
 pub mod Claims

@@ -1,6 +1,6 @@
 -- The calls on the running form: what the arrays stand for afterwards, and what is left as it is, number for number.
 -- Assumes nothing.
-use Rattle.std.specs.Prelude.{ℕ, ◌+◌, ◌*◌, ◌/◌, ◌%◌, ◌<◌, ◌≤◌, ◌≡◌, true, eqb, length, get_or, set, drop}
+use Rattle.std.specs.Prelude.{ℕ, ◌+◌, ◌*◌, ◌/◌, ◌%◌, ◌<◌, ◌≤◌, ◌≡◌, true, eqb, length, get_or, set}
 use mathlib.Core.List.{List, map, Memᴰ}
 use Rattle.std.proofs.Math.Seq.{paste}
 use Rattle.def.specs.State.{slots, list_places, highest_poc}
@@ -45,17 +45,16 @@ pub record Dropped (rows after : List ℕ) : Type 0 where
   pub pictures_stay : PicturesStay rows after
   pub rows_long : length after ≡ rows_length
 
--- The keys at n places of the list, from place `from` on, are those of slots that hold pictures.
-pub record WriteRoom (keys rows list : List ℕ) (from n : ℕ) : Type 0 where
+-- There is room for entries from place `from` on, and the list's keys are those of slots that hold pictures.
+pub record WriteRoom (keys rows list : List ℕ) (from : ℕ) : Type 0 where
   pub sized : Sized keys rows
-  pub list_long : length list ≡ list_places + list_places
-  pub fits : from + n ≤ list_places + list_places
-  pub slots_fit : (k : Key) → Memᴰ k (keys_in n (drop from list)) → (k.slot < slots) × HeldKey (get_or keys k.slot 0)
+  pub fits : from + length list ≤ list_places + list_places
+  pub slots_fit : (k : Key) → Memᴰ k (keys_in list) → (k.slot < slots) × HeldKey (get_or keys k.slot 0)
 
--- n entries from place `from` on are the pictures of the list's keys; the rows of the buffers may be read as they stood at any time before.
-pub record Entered (keys list rows after : List ℕ) (from n : ℕ) : Type 0 where
+-- The entries from place `from` on are the pictures of the list's keys; the rows of the buffers may be read as they stood at any time before.
+pub record Entered (keys list rows after : List ℕ) (from : ℕ) : Type 0 where
   pub lists_are : (before : List ℕ) → PicturesStay before rows
-      → lists_in after ≡ paste (lists_in rows) from (map (entry_of (map (slot_at before) keys)) (keys_in n (drop from list))) n
+      → lists_in after ≡ paste (lists_in rows) from (map (entry_of (map (slot_at before) keys)) (keys_in list)) (length list)
   pub pictures_stay : PicturesStay rows after
   pub rows_long : length after ≡ rows_length
 

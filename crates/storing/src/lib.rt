@@ -7,7 +7,8 @@ ghost use Rattle.def.specs.State.{list_places};
 ghost use Rattle.keys.specs.Keys.{row_length, head_row, number_row, rows_length, row_at, key_buffer, key_number};
 ghost use Rattle.refp.specs.Running.{entry_with, HeldKey, EntryStored, Dropped, WriteRoom, Entered};
 
-use keys::{ENTRY_ROW, HEAD_ROW, NUMBER_ROW, PLACES, ROW};
+use keys::{ENTRY_ROW, HEAD_ROW, NUMBER_ROW, ROW};
+use ordering::LAYER_UNIT;
 
 // Flag and buffer number of the entry at place `j`, and its number.
 pub fn write_head(rows: &mut [u32], j: usize, head: u32, poc: u32)
@@ -30,16 +31,14 @@ fn write_entry(rows: &mut [u32], j: usize, key: u64)
     keys::row::copy_row(rows, buf, ENTRY_ROW + j, ROW);
 }
 
-// `n` entries from place `from` on take the pictures that stand there in the list of keys.
-pub fn write_entries(keys: &[u64], rows: &mut [u32], list: &[u64; PLACES], from: usize, n: usize)
-    requires { WriteRoom keys.now rows.old list.now from n }
-    ensures { Entered keys.now list.now rows.old rows.new from n }
+// The entries from place `from` on take the pictures of the list's keys.
+pub fn write_entries(keys: &[u64], rows: &mut [u32], list: &[u64], from: usize)
+    requires { WriteRoom keys.now rows.old list.now from }
+    ensures { Entered keys.now list.now rows.old rows.new from }
 {
-    let mut j: usize = 0;
-    while j < n {
-        let slot = (list[from + j] % 256) as usize;
+    for (j, &key) in list.iter().enumerate() {
+        let slot = (key % LAYER_UNIT) as usize;
         write_entry(rows, from + j, keys[slot]);
-        j = j + 1;
     }
 }
 

@@ -1,13 +1,13 @@
 -- `adding::copy_refp` meets its contract: the two refusals, and the entry stored in its place. Assumes nothing.
-use Prim.Native.Nat.{ℕ, ◌+◌, ◌*◌, ◌≤◌}
+use Prim.Native.Nat.{ℕ, ◌+◌, ◌*◌, ◌≤◌, ◌<◌}
+use mathlib.Core.Logic.{◌⊎◌, inl, inr}
 use mathlib.Core.Path.{◌≡◌, refl, sym, ◌∙◌}
 use mathlib.Core.Bool.{Bool, true, false, ◌||◌}
-use mathlib.Core.Bool as Bool
 use mathlib.Core.List.{List}
 use native.Mathlib.Omega.{arith}
 use lib.Dec.{ltb}
 use lib.ListN.{length, set}
-use borrow.Author.Tests.{ltb-false}
+use borrow.Author.Tests.{lt-ltb, le-ltb}
 use Rattle.def.specs.declared.{EvcRefP.EvcRefP, CopyResult.CopyResult, Answer.Answer, Refusal.Refusal}
 use Rattle.keys.specs.Keys.{rows_length, lists_in}
 use Rattle.refp.specs.Copy.{copy}
@@ -15,13 +15,16 @@ use Rattle.refp.specs.Running.{entry_with, EntryStored, CopyCame}
 use Rattle.refp.proofs.Entries.{entry-stored}
 use Rattle.adding.proofs.copy_refp.Goals as goal
 
-neither : (a b : Bool) → (a || b) ≡ false → (a ≡ false) × (b ≡ false)
-neither true b e = absurd (Bool.true≢false e)
-neither false b e = (refl, e)
+no-place : (cnt lidx : ℕ) → (21 ≤ cnt) ⊎ ((cnt < 21) × (2 ≤ lidx)) → (ltb 20 cnt || ltb 1 lidx) ≡ true
+no-place cnt lidx (inl h) = rw (lt-ltb 20 cnt h) refl
+no-place cnt lidx (inr h) = pick (ltb 20 cnt)
+  where
+    pick : (b : Bool) → (b || ltb 1 lidx) ≡ true
+    pick true = refl
+    pick false = lt-ltb 1 lidx h.1
 
--- the place is there
-small : (cnt lidx : ℕ) → (ltb 20 cnt || ltb 1 lidx) ≡ false → (cnt ≤ 20) × (lidx ≤ 1)
-small cnt lidx e = let n = neither (ltb 20 cnt) (ltb 1 lidx) e in (ltb-false 20 cnt n.0, ltb-false 1 lidx n.1)
+there : (cnt lidx : ℕ) → cnt ≤ 20 → lidx ≤ 1 → (ltb 20 cnt || ltb 1 lidx) ≡ false
+there cnt lidx h l = rw (le-ltb 20 cnt h, le-ltb 1 lidx l) refl
 
 module _ (rows : List ℕ) (long : length rows ≡ rows_length) where
   turned-down-came : {stored : List ℕ} (why : Refusal) (r : CopyResult) → r ≡ record { answer = Answer.Refused why; refp = lists_in rows }
@@ -50,23 +53,23 @@ module _ (rows : List ℕ) (long : length rows ≡ rows_length) where
       clash : {why : Refusal} → Answer.Done ≡ Answer.Refused why → ⊥
       clash e = let z : ◌≡◌ {A = ℕ} 0 1 = cc in omega arith
 
-pub returns-then-cnt-lidx : goal.returns-then-cnt-lidx
+pub returns-then-cnt : goal.returns-then-cnt
 unfolding copy
-returns-then-cnt-lidx c = turned-down-came c.args.rows.now c.requires.0 Refusal.NoSuchPlace _ (rw c.if-cnt-lidx.true)
+returns-then-cnt c = turned-down-came c.args.rows.now c.requires.0 Refusal.NoSuchPlace _ (rw (no-place c.args.cnt c.args.lidx c.then-cnt.either) refl)
 
 pub returns-then-number_stands : goal.returns-then-number_stands
 unfolding copy
 returns-then-number_stands c =
-    turned-down-came c.args.rows.now c.requires.0 Refusal.SameNumber _ (rw (c.if-cnt-lidx.false, sym c.number_stands.ensures ∙ c.if-number_stands.true))
+    turned-down-came c.args.rows.now c.requires.0 Refusal.SameNumber _
+    (rw (there c.args.cnt c.args.lidx (omega arith) (omega arith), sym c.number_stands.ensures ∙ c.if-number_stands.true) refl)
 
 pub returns : goal.returns
 unfolding copy
 returns c =
     let a = c.args in
-    let h = small c.args.cnt c.args.lidx c.if-cnt-lidx.false in
     let j = a.lidx * 21 + a.cnt in
     let e = entry_with a.head a.poc a.numbers.now in
     copied-came a.rows.now c.requires.0 j e _
     (c.write_row.ensures ∙ rw c.write_head.ensures refl)
     (entry-stored a.rows.now c.requires.0 j (omega arith) a.head a.poc a.numbers.now c.requires.1)
-    (rw (c.if-cnt-lidx.false, sym c.number_stands.ensures ∙ c.if-number_stands.false))
+    (rw (there c.args.cnt c.args.lidx (omega arith) (omega arith), sym c.number_stands.ensures ∙ c.if-number_stands.false) refl)

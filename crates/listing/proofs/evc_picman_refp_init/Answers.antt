@@ -20,19 +20,19 @@ opened t o = record { tells = o.tells; stands_for = o.stands_for; lists_stay = o
 pub returns-then-not-state : goal.returns-then-not-state
 returns-then-not-state c = lists-turned-away (opened c.take_lists.ensures c.open_state-state.ensures) _ (not-true _ c.if-not-state.true)
 
-pub refp_init-called-requires : goal.refp_init-called-requires
-refp_init-called-requires c =
+pub refp_init-given-requires : goal.refp_init-given-requires
+refp_init-given-requires c =
     let o = opened c.take_lists.ensures c.open_state-state.ensures in
-    record { sized = (o.sized, refl, refl); rest_value = opened-whole o (not-false _ c.if-not-state.false) }
+    record { sized = o.sized; is_whole = opened-whole o (not-false _ c.if-not-state.false) }
 
 pub finished-done-requires : goal.finished-done-requires
 finished-done-requires c =
     let o = opened c.take_lists.ensures c.open_state-state.ensures in
-    let came = c.refp_init-called.ensures.comes in
+    let came = c.refp_init-given.ensures.comes in
     (came.lists_sized, lists-still-whole o _ (not-false _ c.if-not-state.false) came)
 
 pub returns : goal.returns
 returns c =
     let o = opened c.take_lists.ensures c.open_state-state.ensures in
-    rw (c.put_lists-filled.ensures, c.finished-done.ensures)
-    (lists-come-to o _ (not-false _ c.if-not-state.false) c.refp_init-called.ensures.comes)
+    rw (c.put_lists-filled.ensures, c.finished-done.ensures, c.lists_answer-answer.ensures)
+    (lists-come-to o _ (not-false _ c.if-not-state.false) c.refp_init-given.ensures.comes)

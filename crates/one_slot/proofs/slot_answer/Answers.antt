@@ -15,4 +15,4 @@ returns-then-not-is_marked c rows =
 pub returns : goal.returns
 returns c rows =
     told-reason c.args.call rows c.args.keys.now c.args.slot (sym (c.is_held.ensures rows) ∙ c.if-not-is_held.false)
-    (sym c.is_marked.ensures ∙ c.if-not-is_marked.false) (c.requires.by_index rows) (c.reason_of.ensures rows)
+    (sym c.is_marked.ensures ∙ c.if-not-is_marked.false) (c.requires.in_order rows) (c.reason_of.ensures rows)
