@@ -15,7 +15,12 @@ pub fn answer_word(reply: Reply) -> u64
     u64::from(reply.value) * 0x1_0000_0000 + u64::from(reply.buf) * 256 + u64::from(reply.status)
 }
 
-pub fn answer_on(keys: &mut [u64], rows: &mut [u32], registers: &mut [u32], line: Option<Call>) -> u64
+pub fn answer_on(
+    keys: &mut [u64],
+    rows: &mut [u32],
+    registers: &mut [u32],
+    line: Option<Call>,
+) -> u64
     ensures { let before = slices keys.old rows.old registers.old in
         let after = slices keys.new rows.new registers.new in
         OnSlices result line before after }

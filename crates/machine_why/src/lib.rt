@@ -19,7 +19,12 @@ use sizing::is_sized;
 use wholeness::is_whole;
 
 // The answer on keys and registers of the right sizes.
-fn slices_answer(keys: &[u64], registers: &[u32], call: RefpCall, slot: u8) -> Result<Reason, Refusal>
+fn slices_answer(
+    keys: &[u64],
+    registers: &[u32],
+    call: RefpCall,
+    slot: u8,
+) -> Result<Reason, Refusal>
     requires { (length keys.now ≡ slots) × (length registers.now ≡ registers_length) }
     ensures { (rows : List ℕ) → result ≡ why (stands keys.now rows (rest_of registers.now)) call slot }
 {

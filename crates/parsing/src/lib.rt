@@ -29,7 +29,20 @@ pub fn call_in(body: &[u8]) -> Option<Call>
             })
         }
         [OUT_PIC] => Some(Call::OutPic),
-        [REFP_INIT, slice_type, p0, p1, p2, p3, layer_id, i0, i1, i2, i3, limit] => {
+        [
+            REFP_INIT,
+            slice_type,
+            p0,
+            p1,
+            p2,
+            p3,
+            layer_id,
+            i0,
+            i1,
+            i2,
+            i3,
+            limit,
+        ] => {
             Some(Call::RefpInit {
                 slice_type,
                 poc: u32::from_be_bytes([p0, p1, p2, p3]),

@@ -5,10 +5,5 @@ use relay::relay;
 use telling::Commands;
 
 fn main(rt: HostRuntime) {
-    let _ = relay::<Commands, _, _, _>(
-        &rt,
-        &mut rt.stdin(),
-        &mut rt.stdout(),
-        &mut rt.stderr(),
-    );
+    let _ = relay::<Commands, _, _, _>(&rt, &mut rt.stdin(), &mut rt.stdout(), &mut rt.stderr());
 }

@@ -5,10 +5,5 @@ use relay::relay;
 use telling::Answers;
 
 fn main(rt: HostRuntime) {
-    let _ = relay::<Answers, _, _, _>(
-        &rt,
-        &mut rt.stdin(),
-        &mut rt.stdout(),
-        &mut rt.stderr(),
-    );
+    let _ = relay::<Answers, _, _, _>(&rt, &mut rt.stdin(), &mut rt.stdout(), &mut rt.stderr());
 }

@@ -13,8 +13,8 @@ ghost use Rattle.run.specs.Session.{NextIs, NewSession, RunRoom, RanOver, EndRoo
 
 use buffer::line_end;
 use line::{Call, Reply, bad_line_reply};
-use machine::fresh::new_scalars;
 use machine::Scalars;
+use machine::fresh::new_scalars;
 use making::make_call;
 use partial::{Partial, extended, no_line, read_with};
 use replies::write_reply;

@@ -42,7 +42,12 @@ fn call_on(keys: &mut [u64], rows: &mut [u32], registers: &mut [u32], call: Call
 }
 
 // Any line on any slices.
-pub fn reply_on(keys: &mut [u64], rows: &mut [u32], registers: &mut [u32], line: Option<Call>) -> Reply
+pub fn reply_on(
+    keys: &mut [u64],
+    rows: &mut [u32],
+    registers: &mut [u32],
+    line: Option<Call>,
+) -> Reply
     ensures { let before = slices keys.old rows.old registers.old in
         let after = slices keys.new rows.new registers.new in
         (result ≡ reply_to before line) × Leaves line before after }

@@ -9,7 +9,9 @@ ghost use Rattle.hex_digits.specs.Frame.{is_checked};
 pub fn sum8(bytes: &[u8]) -> u8
     ensures { result ≡ sum8 bytes.now }
 {
-    bytes.iter().fold(0, |sum: u8, &byte| sum.wrapping_add(byte))
+    bytes
+        .iter()
+        .fold(0, |sum: u8, &byte| sum.wrapping_add(byte))
 }
 
 /// Whether bytes end with a check byte: at least that one, and a sum of zero.

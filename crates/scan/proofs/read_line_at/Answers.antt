@@ -38,10 +38,10 @@ returns-then-rest-end c =
     let b = c.args.buffer.now in
     let at = c.args.at in
     sym (none-there b at (rest b at) (sym (rest-is b at)) (λ m call g e.
-      let end = same-some (sym c.line_length.ensures ∙ c.in_ok-end.was) g.sized in
-      let i = g.inside in
-      let n = g.ends in
-      elim c.then-rest-end.branch [ then-rest-end-via-then-rest-end w ↦ omega arith | then-rest-end-via-else-rest-end+then-rest-end-ne10 w ↦ w.if-rest-end-ne10.true (rw (← end) at n) ]))
+    let end = same-some (sym c.line_length.ensures ∙ c.in_ok-end.was) g.sized in
+    let i = g.inside in
+    let n = g.ends in
+    elim c.then-rest-end.branch [ then-rest-end-via-then-rest-end w ↦ omega arith | then-rest-end-via-else-rest-end+then-rest-end-ne10 w ↦ w.if-rest-end-ne10.true (rw (← end) at n) ]))
 
 pub returns-in_err-call : goal.returns-in_err-call
 returns-in_err-call c =
@@ -49,8 +49,8 @@ returns-in_err-call c =
     let at = c.args.at in
     let none : call_at b at ≡ None =
     none-there b at (rest b at) (sym (rest-is b at)) (λ m call g e.
-      let end = same-some (sym c.line_length.ensures ∙ c.in_ok-end.was) g.sized in
-      not-both (sym c.read_line.ensures ∙ c.in_err-call.was) (rw (← end) at e)) in
+    let end = same-some (sym c.line_length.ensures ∙ c.in_ok-end.was) g.sized in
+    not-both (sym c.read_line.ensures ∙ c.in_err-call.was) (rw (← end) at e)) in
     rw none (search rules)
 
 pub returns : goal.returns
