@@ -1,5 +1,5 @@
 -- What was chosen, and the whole answer. Assumes nothing.
-use Rattle.std.proofs.Common.{Result, Ok, Err}
+use Rattle.std.proofs.Common.{Result, Err}
 use mathlib.Core.Path.{◌≡◌, sym}
 use mathlib.Core.Bool.{true, false}
 use mathlib.Core.List.{List}

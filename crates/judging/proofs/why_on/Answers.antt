@@ -2,12 +2,14 @@
 use mathlib.Core.Path.{◌≡◌, sym, ap, ◌∙◌}
 use Prim.Native.Nat.{ℕ}
 use mathlib.Core.List.{List, map}
-use Rattle.std.proofs.Common.{rules, Result, Ok, Err}
+use native.Mathlib.Omega.{arith}
+use lib.ListN.{length}
+use Rattle.std.proofs.Common.{rules, Result, Err}
 use Rattle.def.specs.declared.{RefpCall.RefpCall, Refusal.Refusal}
 use Rattle.keys.specs.Keys.{slot_at}
 use Rattle.ordering.specs.Order.{Key}
 use Rattle.ordering.specs.InNumbers.{keys_in}
-use Rattle.choosing.specs.Choice.{Chosen, turned_down, chosen, choice}
+use Rattle.choosing.specs.Choice.{Chosen, choice}
 use Rattle.reasons.specs.declared.Reason.{Reason}
 use Rattle.reasons.specs.Reasons.{if_chosen}
 use Rattle.judging.proofs.Asking.{answers-high, answers-i, answers-choice, chosen-few}
@@ -38,7 +40,11 @@ returns-in_err-choose c rows =
 pub slot_answer-requires : goal.slot_answer-requires
 slot_answer-requires c = record {
   slots_long = c.requires;
-  few = rw c.deref-2.ensures.0 (rw c.deref.ensures.0 at chosen-few c.args.call c.deref.result.now c.in_ok-choose.ensures);
+  few =
+      (let few = chosen-few c.args.call c.deref.result.now c.in_ok-choose.ensures in
+      let first = ap length c.deref.ensures.0 in
+      let second = ap length c.deref-2.ensures.0 in
+      omega arith);
   in_order = λ rows. rw c.deref-2.ensures.0 (c.picman_update_pic_ref.ensures rows);
 }
 
