@@ -62,7 +62,7 @@ pub fn get_call(keys: &mut [u64], rows: &mut [u32], s: Scalars) -> Made
 {
     let rest = s.rest;
     let poc = s.poc;
-    made(GET_EMPTY_PIC, leasing::get(keys, rows, rest), poc)
+    made(GET_EMPTY_PIC, picman::get::get(keys, rows, rest), poc)
 }
 
 pub fn put_call(keys: &mut [u64], rows: &mut [u32], s: Scalars, call: PutCall) -> Made
@@ -74,7 +74,7 @@ pub fn put_call(keys: &mut [u64], rows: &mut [u32], s: Scalars, call: PutCall) -
 {
     let rest = s.rest;
     let poc = s.poc;
-    made(PUT_PIC, putting::put(keys, rows, rest, call), poc)
+    made(PUT_PIC, picman::put::put(keys, rows, rest, call), poc)
 }
 
 pub fn out_call(keys: &mut [u64], rows: &[u32], s: Scalars) -> Made
@@ -86,7 +86,7 @@ pub fn out_call(keys: &mut [u64], rows: &[u32], s: Scalars) -> Made
 {
     let rest = s.rest;
     let poc = s.poc;
-    made(OUT_PIC, handing::out(keys, rest), poc)
+    made(OUT_PIC, picman::out::out(keys, rest), poc)
 }
 
 pub fn refp_call(keys: &[u64], rows: &mut [u32], s: Scalars, call: RefpCall) -> Made

@@ -8,7 +8,7 @@ ghost use Rattle.reasons.specs.Reasons.{why};
 use def::{EvcPm, RefpCall, Refusal};
 use judging::why_on;
 use keys::{PLACES, ROWS, SLOTS};
-use opening::open_state;
+use entry::opening::open_state;
 use reasons::WhyAnswer;
 
 pub fn evc_picman_why(pm: EvcPm, call: RefpCall, slot: u8) -> WhyAnswer

@@ -8,7 +8,7 @@ ghost use Rattle.refp.specs.Lists.{lists};
 use def::{Answer, EvcPm, EvcRefP, REFP_PLACES, RefpCall, RefpResult, Refusal};
 use entries::{put_lists, take_lists};
 use keys::{PLACES, ROWS, SLOTS};
-use opening::{finished, open_state};
+use entry::opening::{finished, open_state};
 
 pub fn evc_picman_refp_init(pm: EvcPm, refp: [EvcRefP; REFP_PLACES], call: RefpCall) -> RefpResult
     ensures { result ≡ lists pm refp call }

@@ -21,7 +21,7 @@ use Rattle.keys.specs.Keys.{key_present, key_idle, key_buffers, key_number, row_
 use Rattle.keys.proofs.RowLaws.{row-whole, row_other}
 use Rattle.keys.proofs.KeyLaws.{slot-new, slots-unseen, buffers-same}
 use Rattle.keys.proofs.ListRows.{lists_stay}
-use Rattle.free_buffers.specs.FreeBuffer.{key_free}
+use Rattle.store.specs.FreeBuffer.{key_free}
 use Rattle.whole.specs.Whole.{whole}
 use Rattle.whole.proofs.Laws.{whole-rules, free-buffer-below}
 use Rattle.picman.specs.Get.{reuse, free_buffer, shown, get_new, get_whole}

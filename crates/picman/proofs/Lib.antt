@@ -14,3 +14,4 @@ pub mod OutOnKeys
 pub mod PutOnKeys
 pub mod InitOnKeys
 pub mod Examples
+mod DuePlace

@@ -9,7 +9,7 @@ ghost use Rattle.whole.specs.Whole.{whole};
 
 use def::{MAX_PB, MAX_REFS};
 use keys::{Rest, SLOTS};
-use tallying::{tally_all, tally_key};
+use crate::tally::{tally_all, tally_key};
 
 // One more than the highest key of a picture whose number is not too high, and than the highest set of buffer numbers, as bits.
 const KEYS_END: u64 = 0x8000_0000_0000;

@@ -1,0 +1,6 @@
+-- `opening::finished` meets its contract. Assumes nothing.
+use mathlib.Core.Path.{refl}
+use Rattle.entry.proofs.opening.finished.Goals as goal
+
+pub returns : goal.returns
+returns c = rw c.put_together-pm.ensures refl
