@@ -14,4 +14,3 @@ pub mod OutOnKeys
 pub mod PutOnKeys
 pub mod InitOnKeys
 pub mod Examples
-mod DuePlace

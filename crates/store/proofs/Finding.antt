@@ -4,12 +4,13 @@ use mathlib.Core.Bool.{Bool, true, false, cond, not}
 use mathlib.Core.List.{List, [], ◌∷◌, map}
 use Prim.Native.Nat.{ℕ, suc, ◌+◌, ◌≤◌, ◌<◌}
 use native.Mathlib.Omega.{arith}
-use borrow.Author.Tests.{ltb-true, ltb-false, lt-ltb}
+use borrow.Author.Tests.{ltb-true, ltb-false, lt-ltb, le-ltb}
 use lib.Dec.{ltb}
 use lib.ListN.{length, length-map}
 use Rattle.std.specs.Prelude.{Option, Some, None}
 use Rattle.std.specs.List.{position, position_or_len, list_any, count_by}
 use Rattle.std.proofs.lemmas.List.Sums.{sum_by-cons}
+use Rattle.std.proofs.lemmas.List.{map-id}
 use Rattle.seq.specs.Lists.{any_of, lowest, count_if, highest}
 use Rattle.seq.proofs.Walks.{found-any, lowest-none}
 
@@ -84,3 +85,28 @@ count-by q (x ∷ xs) = sum_by-cons (λ y. cond (q y) 1 0) x xs ∙ pick (q x) (
     pick : {m n : ℕ} (b : Bool) → m ≡ n → cond b 1 0 + m ≡ cond b (suc n) n
     pick true e = omega arith
     pick false e = omega arith
+
+-- a search in the list itself
+module _ {A : Type 0} (q : A → Bool) (xs : List A) where
+  same : lowest q xs ≡ position_or_len q xs
+  same = ap (lowest q) (sym (map-id xs)) ∙ lowest-through (λ x. x) q q (λ x. refl) xs
+
+  pub found-here : (i : ℕ) → position q xs ≡ Some i → (lowest q xs ≡ i) × (i < length xs)
+  found-here i e =
+      let t = hit (ltb (position_or_len q xs) (length xs)) (position_or_len q xs) i e in
+      let l : position_or_len q xs < length xs = ltb-true _ _ t.0 in
+      (same ∙ t.1, omega (arith, t.1))
+
+  pub none-here : position q xs ≡ None → length xs ≤ lowest q xs
+  none-here e =
+      let t = miss (ltb (position_or_len q xs) (length xs)) (position_or_len q xs) e in
+      let l : length xs ≤ position_or_len q xs = ltb-false _ _ t in
+      omega (arith, same)
+
+  pub place-here : (i : ℕ) → i < length xs → lowest q xs ≡ i → position q xs ≡ Some i
+  place-here i h e = place-through (λ x. x) q q (λ x. refl) xs i h (ap (lowest q) (map-id xs) ∙ e)
+
+  pub no-place : length xs ≤ lowest q xs → position q xs ≡ None
+  no-place h =
+      let l : length xs ≤ position_or_len q xs = omega (arith, same) in
+      rw (le-ltb (position_or_len q xs) (length xs) l) refl

@@ -1,41 +1,41 @@
--- `placing::place_marked` meets its contract: taken, or placed. Assumes nothing.
-use native.Mathlib.Omega.{arith}
+use Rattle.std.proofs.Common.{◌≡◌, arith}
+use Rattle.std.proofs.lemmas.Result.{err_from_is_err_and}
 use Rattle.keys.specs.Keys.{Sized}
 use Rattle.picman.specs.OnKeys.{with_refs}
-use Rattle.picman.proofs.PutOnKeys.{room_for, reference-in, on-taken, on-placed}
+use Rattle.picman.proofs.PutOnKeys.{room_for, reference-in, found-free, on-taken, on-placed}
 use Rattle.picman.proofs.place.place_marked.Goals as goal
 
-pub place_for-pos-requires : goal.place_for-pos-requires
-place_for-pos-requires c =
-    let marked-sized : Sized c.args.next.now c.args.rows.now = record { slots_long = c.requires.1; rows_long = c.requires.0.rows_long } in (
-      c.requires.1,
-      reference-in c.args.next.now c.args.rows.now (with_refs c.args.rest c.args.count) marked-sized
-          c.requires.2 c.requires.3 c.args.call,
-    )
+pub place_for-requires : goal.place_for-requires
+place_for-requires c =
+    let a = c.args in
+    let sized : Sized a.next.now a.rows.now = record { slots_long = c.told-next; rows_long = c.requires.0.rows_long } in
+    let h = reference-in a.next.now a.rows.now (with_refs a.rest.now a.count) sized c.requires.1 c.requires.2 a.call in
+    omega (arith, h, c.told-next)
 
-pub returns-then-pos-ge-SLOTS : goal.returns-then-pos-ge-SLOTS
-returns-then-pos-ge-SLOTS c =
-    let marked-sized : Sized c.args.next.now c.args.rows.now = record { slots_long = c.requires.1; rows_long = c.requires.0.rows_long } in
-    let e = c.place_for-pos.ensures in
-    rw c.refuse.ensures
-    (on-taken c.args.next.now c.args.rows.now (with_refs c.args.rest c.args.count) marked-sized
-    c.requires.2 c.requires.3 c.args.call c.args.keys.now c.args.rest c.requires.0.slots_long
-    (omega (arith, c.if-pos-ge-SLOTS.true)))
+pub returns-in_err-pos : goal.returns-in_err-pos
+returns-in_err-pos c =
+    let a = c.args in
+    let sized : Sized a.next.now a.rows.now = record { slots_long = c.told-next; rows_long = c.requires.0.rows_long } in
+    let f = err_from_is_err_and c.from_residual.result c.from_residual.ensures.1 in
+    let same : f.0 ≡ c.in_err-pos.field-0.0 = f.2 in
+    rw (f.1, same)
+    (on-taken a.next.now a.rows.now (with_refs a.rest.now a.count) sized c.requires.1 c.requires.2 a.call a.keys.now a.rest.now c.requires.0.slots_long
+    c.in_err-pos.field-0.0
+    c.in_err-pos.ensures)
 
 pub picman_set_pic_to_pb-requires : goal.picman_set_pic_to_pb-requires
 picman_set_pic_to_pb-requires c =
-    let marked-sized : Sized c.args.next.now c.args.rows.now = record { slots_long = c.requires.1; rows_long = c.requires.0.rows_long } in
-    rw c.copy_keys.ensures (
-      marked-sized,
-      room_for c.args.next.now c.args.rows.now (with_refs c.args.rest c.args.count) marked-sized c.requires.2
-          c.requires.3 c.args.call _ c.if-pos-ge-SLOTS.false,
-    )
+    let a = c.args in
+    let sized : Sized a.next.now a.rows.now = record { slots_long = c.told-next; rows_long = c.requires.0.rows_long } in
+    let found = found-free a.next.now a.rows.now (with_refs a.rest.now a.count) sized c.requires.1 c.requires.2 a.call c.in_ok-pos.pos c.in_ok-pos.ensures in
+    rw c.copy_from_slice.ensures.after
+    (sized, room_for a.next.now a.rows.now (with_refs a.rest.now a.count) sized c.requires.1 c.requires.2 a.call _ found.2)
 
 pub returns : goal.returns
 returns c =
-    let marked-sized : Sized c.args.next.now c.args.rows.now = record { slots_long = c.requires.1; rows_long = c.requires.0.rows_long } in
-    let e = c.place_for-pos.ensures in
-    on-placed c.args.next.now c.args.rows.now (with_refs c.args.rest c.args.count) marked-sized c.requires.2
-    c.requires.3 c.args.call c.args.keys.now c.args.rest c.requires.0.slots_long _ _ _
-    (omega (arith, c.if-pos-ge-SLOTS.false))
-    (rw (c.copy_keys.ensures, e) at c.picman_set_pic_to_pb.ensures)
+    let a = c.args in
+    let sized : Sized a.next.now a.rows.now = record { slots_long = c.told-next; rows_long = c.requires.0.rows_long } in
+    on-placed a.next.now a.rows.now (with_refs a.rest.now a.count) sized c.requires.1 c.requires.2 a.call a.keys.now a.rest.now c.requires.0.slots_long _ _ _ _
+    c.in_ok-pos.pos
+    c.in_ok-pos.ensures
+    (rw c.copy_from_slice.ensures.after at c.picman_set_pic_to_pb.ensures)

@@ -1,27 +1,36 @@
--- `placing::place_unmarked` meets its contract: placed, or taken. Assumes nothing.
-use native.Mathlib.Omega.{arith}
-use Rattle.picman.proofs.PutOnKeys.{room_for, reference-in, on-taken, on-placed}
+use Rattle.std.proofs.Common.{◌≡◌, arith}
+use Rattle.std.proofs.lemmas.Result.{err_from_is_err_and}
+use Rattle.picman.proofs.PutOnKeys.{room_for, reference-in, found-free, on-taken, on-placed}
 use Rattle.picman.proofs.place.place_unmarked.Goals as goal
 
-pub place_for-pos-requires : goal.place_for-pos-requires
-place_for-pos-requires c =
-    (c.requires.0.slots_long, reference-in c.args.keys.now c.args.rows.now c.args.rest c.requires.0 c.requires.1 c.requires.2 c.args.call)
+pub place_for-requires : goal.place_for-requires
+place_for-requires c =
+    let a = c.args in
+    let h = reference-in a.keys.now a.rows.now a.rest.now c.requires.0 c.requires.1 c.requires.2 a.call in
+    omega (arith, h, c.requires.0.slots_long)
+
+pub returns-in_err-pos : goal.returns-in_err-pos
+returns-in_err-pos c =
+    let a = c.args in
+    let f = err_from_is_err_and c.from_residual.result c.from_residual.ensures.1 in
+    let same : f.0 ≡ c.in_err-pos.field-0.0 = f.2 in
+    rw (f.1, same)
+    (on-taken a.keys.now a.rows.now a.rest.now c.requires.0 c.requires.1 c.requires.2 a.call a.keys.now a.rest.now c.requires.0.slots_long
+    c.in_err-pos.field-0.0
+    c.in_err-pos.ensures)
 
 pub picman_set_pic_to_pb-requires : goal.picman_set_pic_to_pb-requires
 picman_set_pic_to_pb-requires c =
-    (c.requires.0, room_for c.args.keys.now c.args.rows.now c.args.rest c.requires.0 c.requires.1 c.requires.2 c.args.call _ c.if-pos-lt-SLOTS.true)
-
-pub returns-then-pos-lt-SLOTS : goal.returns-then-pos-lt-SLOTS
-returns-then-pos-lt-SLOTS c =
-    let e = c.place_for-pos.ensures in
-    on-placed c.args.keys.now c.args.rows.now c.args.rest c.requires.0 c.requires.1 c.requires.2 c.args.call
-    c.args.keys.now c.args.rest c.requires.0.slots_long _ _ _
-    (omega (arith, c.if-pos-lt-SLOTS.true))
-    (rw e at c.picman_set_pic_to_pb.ensures)
+    let a = c.args in (
+      c.requires.0,
+      room_for a.keys.now a.rows.now a.rest.now c.requires.0 c.requires.1 c.requires.2 a.call _
+          (found-free a.keys.now a.rows.now a.rest.now c.requires.0 c.requires.1 c.requires.2 a.call c.in_ok-pos.pos c.in_ok-pos.ensures).2,
+    )
 
 pub returns : goal.returns
 returns c =
-    let e = c.place_for-pos.ensures in
-    rw c.refuse.ensures
-    (on-taken c.args.keys.now c.args.rows.now c.args.rest c.requires.0 c.requires.1 c.requires.2 c.args.call
-    c.args.keys.now c.args.rest c.requires.0.slots_long (omega (arith, c.if-pos-lt-SLOTS.false)))
+    let a = c.args in
+    on-placed a.keys.now a.rows.now a.rest.now c.requires.0 c.requires.1 c.requires.2 a.call a.keys.now a.rest.now c.requires.0.slots_long _ _ _ _
+    c.in_ok-pos.pos
+    c.in_ok-pos.ensures
+    c.picman_set_pic_to_pb.ensures
