@@ -11,23 +11,21 @@ ghost use Rattle.refp.specs.Lists.{lists};
 ghost use Rattle.machine.specs.Step.{on_state, on_lists};
 ghost use Rattle.machine.specs.Running.{machine_in, Runs, Makes, made_of, derived_of};
 
-use def::{EvcPoc, PutCall, RefpCall};
+use def::{Answer, EvcPoc, PutCall, RefpCall};
 use derivation::poc_derivation;
-use keys::{Called, PLACES, SLOTS};
+use keys::{PLACES, Rest, SLOTS};
 use line::{GET_EMPTY_PIC, INIT, OUT_PIC, PUT_PIC, REFP_INIT, reply_of};
 use machine::fields::derived_reply;
 use machine::{Made, Scalars};
+use picman::answer::{get_answer, init_answer, out_answer, put_answer};
 
 // What a call on state and lists comes to; the record stays.
-pub fn made(call: u8, called: Called, poc: EvcPoc) -> Made
-    ensures { result ≡ made_of call called poc }
+pub fn made(call: u8, answer: Answer, rest: Rest, poc: EvcPoc) -> Made
+    ensures { result ≡ made_of call answer rest poc }
 {
-    let answer = called.answer;
-    let rest = called.rest;
-    let scalars = Scalars { rest, poc };
     Made {
         reply: reply_of(call, answer),
-        scalars,
+        scalars: Scalars { rest, poc },
     }
 }
 
@@ -44,13 +42,9 @@ pub fn init_call(
         let m = machine_in keys_in rows_in s in
         Makes result s keys_in rows_in keys_in rows_in (on_state 1 m (init m.pm max_pb_size max_num_ref_pics)) }
 {
-    let rest = s.rest;
-    let poc = s.poc;
-    made(
-        INIT,
-        picman::init::init(rest, max_pb_size, max_num_ref_pics),
-        poc,
-    )
+    let mut rest = s.rest;
+    let done = picman::init::init(&mut rest, max_pb_size, max_num_ref_pics);
+    made(INIT, init_answer(done), rest, s.poc)
 }
 
 pub fn get_call(keys: &mut [u64], rows: &mut [u32], s: Scalars) -> Made
@@ -60,9 +54,9 @@ pub fn get_call(keys: &mut [u64], rows: &mut [u32], s: Scalars) -> Made
         let m = machine_in keys_in rows_in s in
         Makes result s keys_in rows_in keys.new rows.new (on_state 2 m (get m.pm)) }
 {
-    let rest = s.rest;
-    let poc = s.poc;
-    made(GET_EMPTY_PIC, picman::get::get(keys, rows, rest), poc)
+    let mut rest = s.rest;
+    let leased = picman::get::get(keys, rows, &mut rest);
+    made(GET_EMPTY_PIC, get_answer(leased), rest, s.poc)
 }
 
 pub fn put_call(keys: &mut [u64], rows: &mut [u32], s: Scalars, call: PutCall) -> Made
@@ -72,9 +66,9 @@ pub fn put_call(keys: &mut [u64], rows: &mut [u32], s: Scalars, call: PutCall) -
         let m = machine_in keys_in rows_in s in
         Makes result s keys_in rows_in keys.new rows.new (on_state 3 m (put m.pm m.refp call)) }
 {
-    let rest = s.rest;
-    let poc = s.poc;
-    made(PUT_PIC, picman::put::put(keys, rows, rest, call), poc)
+    let mut rest = s.rest;
+    let placed = picman::put::put(keys, rows, &mut rest, call);
+    made(PUT_PIC, put_answer(placed), rest, s.poc)
 }
 
 pub fn out_call(keys: &mut [u64], rows: &[u32], s: Scalars) -> Made
@@ -84,9 +78,9 @@ pub fn out_call(keys: &mut [u64], rows: &[u32], s: Scalars) -> Made
         let m = machine_in keys_in rows_in s in
         Makes result s keys_in rows_in keys.new rows_in (on_state 4 m (out m.pm)) }
 {
-    let rest = s.rest;
-    let poc = s.poc;
-    made(OUT_PIC, picman::out::out(keys, rest), poc)
+    let mut rest = s.rest;
+    let handed = picman::out::out(keys, &mut rest);
+    made(OUT_PIC, out_answer(handed), rest, s.poc)
 }
 
 pub fn refp_call(keys: &[u64], rows: &mut [u32], s: Scalars, call: RefpCall) -> Made
@@ -96,28 +90,21 @@ pub fn refp_call(keys: &[u64], rows: &mut [u32], s: Scalars, call: RefpCall) -> 
         let m = machine_in keys_in rows_in s in
         Makes result s keys_in rows_in keys_in rows.new (on_lists 5 m (lists m.pm m.refp call)) }
 {
-    let rest = s.rest;
-    let poc = s.poc;
-    let mut order = [0u64; SLOTS];
-    let mut list = [0u64; PLACES];
-    made(
-        REFP_INIT,
-        filling::refp_init(keys, rows, &mut order, &mut list, rest, call),
-        poc,
-    )
+    let mut order = [0; SLOTS];
+    let mut list = [0; PLACES];
+    let called = filling::refp_init(keys, rows, &mut order, &mut list, s.rest, call);
+    made(REFP_INIT, called.answer, called.rest, s.poc)
 }
 
 pub fn poc_call(s: Scalars, log2_sub_gop_length: u8, tid: u8) -> Made
     ensures { result ≡ derived_of s log2_sub_gop_length tid }
 {
-    let before = s.poc;
-    let rest = s.rest;
-    let d = poc_derivation(log2_sub_gop_length, tid, before);
-    let poc = d.poc;
-    let answer = d.answer;
-    let scalars = Scalars { rest, poc };
+    let d = poc_derivation(log2_sub_gop_length, tid, s.poc);
     Made {
-        reply: derived_reply(answer),
-        scalars,
+        reply: derived_reply(d.answer),
+        scalars: Scalars {
+            rest: s.rest,
+            poc: d.poc,
+        },
     }
 }

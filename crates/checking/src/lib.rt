@@ -8,7 +8,6 @@ ghost use Rattle.machine.specs.Running.{call_byte, is_ready, MakesCall};
 
 use calls::made;
 use def::{Answer, Refusal};
-use keys::Called;
 use line::{Call, GET_EMPTY_PIC, INIT, OUT_PIC, POC_DERIVATION, PUT_PIC, REFP_INIT};
 use machine::{Made, Scalars};
 use making::{make_call, reads_state};
@@ -64,11 +63,6 @@ pub fn checked_call(keys: &mut [u64], rows: &mut [u32], s: Scalars, call: Call) 
     if is_ready(keys, s, call) {
         return make_call(keys, rows, s, call);
     }
-    let rest = s.rest;
-    let poc = s.poc;
-    let called = Called {
-        answer: Answer::Refused(Refusal::StateNotWhole),
-        rest,
-    };
-    made(call_byte(call), called, poc)
+    let answer = Answer::Refused(Refusal::StateNotWhole);
+    made(call_byte(call), answer, s.rest, s.poc)
 }

@@ -2,9 +2,12 @@
 -- Assumes nothing.
 use mathlib.Core.Path.{◌≡◌, refl}
 use mathlib.Core.Bool.{true, false, ◌&&◌}
-use mathlib.Core.List.{List}
+use mathlib.Core.List.{List, [], ◌∷◌}
 use Prim.Native.Nat.{ℕ, ◌*◌, ◌<◌}
+use lib.Dec.{eqb}
 use lib.Seq.{paste}
+use Rattle.std.specs.List.{list_all}
+use Rattle.seq.specs.Lists.{all_of}
 use borrow.Author.Tests.{ltb-true}
 use Rattle.seq.proofs.Tests.{and_left, and_right}
 use Rattle.def.specs.State.{slots}
@@ -17,6 +20,11 @@ use Rattle.conversion.specs.Keyed.{slot_fits, buffer_fits, key_for, rows_with}
 
 abbrev key_of : Slot → ℕ
 key_of s = key_made s.pic.poc s.pic.temporal_id s.buf s.pic.need_for_out s.pic.is_ref
+
+pub all-same : (ns : List ℕ) → all_of (λ n. eqb n 0) ns ≡ list_all (λ n. eqb n 0) ns
+unfolding all_of
+all-same [] = refl
+all-same (n ∷ ns) = rw (all-same ns) refl
 
 module _ (s : Slot) where
   pub key-stray : slot_fits s ≡ false → key_for s ≡ 2

@@ -1,7 +1,4 @@
-// A state by value taken apart into keys, rows and the rest, for crates `opening` and `parting`; crate `together` puts it together again. Any state
-// may be taken apart: `take_slot` gives a slot that breaks a rule by itself a key that no whole state has.
-#![tactic(auto)]
-
+// A state by value taken apart into keys, rows and the rest. Any state may be taken apart: `take_slot` gives a slot that breaks a rule by itself a key that no whole state has.
 ghost use Rattle.keys.specs.Keys.{lists_in, Sized};
 ghost use Rattle.conversion.specs.Apart.{TakenSlots, TakenApart};
 
@@ -13,11 +10,8 @@ fn take_slots(pic: [Slot; SLOTS], keys: &mut [u64], rows: &mut [u32])
     requires { Sized keys.old rows.old }
     ensures { TakenSlots pic keys.new rows.old rows.new }
 {
-    let mut i: usize = 0;
-    while i < SLOTS {
-        let s = pic[i];
-        keys[i] = take_slot(s, rows);
-        i = i + 1;
+    for i in 0..SLOTS {
+        keys[i] = take_slot(pic[i], rows);
     }
 }
 
@@ -26,10 +20,8 @@ pub fn take_apart(pm: EvcPm, keys: &mut [u64], rows: &mut [u32]) -> Rest
     requires { Sized keys.old rows.old }
     ensures { TakenApart pm (lists_in rows.old) keys.new rows.new result }
 {
-    let pic = pm.pic;
-    let pic_lease = pm.pic_lease;
-    take_slots(pic, keys, rows);
-    let lease = take_slot(pic_lease, rows);
+    take_slots(pm.pic, keys, rows);
+    let lease = take_slot(pm.pic_lease, rows);
     Rest {
         lease,
         max_pb_size: pm.max_pb_size,

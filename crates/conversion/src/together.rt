@@ -1,6 +1,4 @@
-// A whole state by value put together from keys, rows and the rest, for crates `opening` and `parting`.
-#![tactic(auto)]
-
+// A whole state by value put together from keys, rows and the rest.
 ghost use Rattle.std.specs.Prelude.{◌≡◌, true, map, ◌≤◌, length};
 ghost use Rattle.def.specs.State.{highest_poc};
 ghost use Rattle.keys.specs.Keys.{key_number, rows_length, slot_with, slot_at, stands, Sized};
@@ -17,17 +15,16 @@ fn slot_with(key: u64, list_poc: [u32; ROW]) -> Slot
     requires { key_number key ≤ highest_poc }
     ensures { result ≡ slot_with key list_poc }
 {
-    let pic = EvcPic {
-        poc: number_of(key),
-        is_ref: key / 2 % 2 == 1,
-        need_for_out: key / 4 % 2 == 1,
-        temporal_id: layer_of(key),
-        list_poc,
-    };
     Slot {
-        present: key % 2 == 1,
+        present: is_present(key),
         buf: buffer_byte(key),
-        pic,
+        pic: EvcPic {
+            poc: number_of(key),
+            is_ref: key / 2 % 2 == 1,
+            need_for_out: key / 4 % 2 == 1,
+            temporal_id: layer_of(key),
+            list_poc,
+        },
     }
 }
 
@@ -36,11 +33,9 @@ fn slot_of(rows: &[u32], key: u64) -> Slot
     ensures { result ≡ slot_at rows.now key }
 {
     if !is_present(key) {
-        let none = [0u32; ROW];
-        return slot_with(key, none);
+        return slot_with(key, [0; ROW]);
     }
-    let numbers = read_row(rows, buffer_of(key));
-    slot_with(key, numbers)
+    slot_with(key, read_row(rows, buffer_of(key)))
 }
 
 fn put_slots(keys: &[u64], rows: &[u32]) -> [Slot; SLOTS]
@@ -49,11 +44,8 @@ fn put_slots(keys: &[u64], rows: &[u32]) -> [Slot; SLOTS]
 {
     let empty = def::empty_slot();
     let mut pic = [empty; SLOTS];
-    let mut i: usize = 0;
-    while i < SLOTS {
-        let s = slot_of(rows, keys[i]);
-        pic[i] = s;
-        i = i + 1;
+    for i in 0..SLOTS {
+        pic[i] = slot_of(rows, keys[i]);
     }
     pic
 }
@@ -63,11 +55,9 @@ pub fn put_together(keys: &[u64], rows: &[u32], rest: Rest) -> EvcPm
     requires { Sized keys.now rows.now × (whole (stands keys.now rows.now rest) ≡ true) }
     ensures { result ≡ stands keys.now rows.now rest }
 {
-    let pic = put_slots(keys, rows);
-    let pic_lease = slot_of(rows, rest.lease);
     EvcPm {
-        pic,
-        pic_lease,
+        pic: put_slots(keys, rows),
+        pic_lease: slot_of(rows, rest.lease),
         max_pb_size: rest.max_pb_size,
         max_num_ref_pics: rest.max_num_ref_pics,
         cur_pb_size: rest.cur_pb_size,

@@ -1,7 +1,5 @@
 // What the entry points by value share: a state that came is taken apart and tested, one that is not whole is handed back with its refusal, and
-// after a call the state is put together. Crates `starting`, `entry`, `listing` and `explaining` call these.
-#![tactic(auto)]
-
+// after a call the state is put together.
 ghost use Rattle.std.specs.Prelude.{◌≡◌, true};
 ghost use Rattle.def.specs.declared.Refusal.{Refusal};
 ghost use Rattle.keys.specs.Keys.{stands, lists_in, Sized};

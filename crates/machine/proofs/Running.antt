@@ -12,7 +12,7 @@ use Rattle.seq.specs.Lists.{entries_from, entries}
 use Rattle.def.specs.declared.{EvcPm.EvcPm, EvcRefP.EvcRefP, PutCall.PutCall, RefpCall.RefpCall, PmResult.PmResult, RefpResult.RefpResult, Answer.Answer}
 use Rattle.def.specs.State.{slots}
 use Rattle.keys.specs.Keys.{row_length, row_count, head_row, number_row, entry_row, rows_length, row_at, slot_at, entry_at, stands, lists_in, Sized}
-use Rattle.keys.specs.declared.{Called.Called}
+use Rattle.keys.specs.declared.{Rest.Rest, Called.Called}
 use Rattle.poc.specs.PictureNumber.{derive}
 use Rattle.poc.proofs.Why.{derive-refused}
 use Rattle.picman.specs.OnKeys.{Calls}
@@ -100,29 +100,29 @@ module _ (keys rows : List ℕ) (s : Scalars) (call : ℕ) where
   abbrev m : Machine
   m = machine_in keys rows s
 
-  rest_stays : (r : Called) → r.rest ≡ s.rest → record { rest = r.rest; poc = s.poc } ≡ s
-  rest_stays r e = rw e refl
+  rest_stays : (rest : Rest) → rest ≡ s.rest → record { rest = rest; poc = s.poc } ≡ s
+  rest_stays rest e = rw e refl
 
   -- A call on the state.
-  pub state-makes : {made : Made} {r : Called} {keys' rows' : List ℕ} {x w : PmResult}
-      → made ≡ made_of call r s.poc → x ≡ w → Calls r keys rows s.rest keys' rows' w
+  pub state-makes : {made : Made} {answer : Answer} {rest : Rest} {keys' rows' : List ℕ} {x w : PmResult}
+      → made ≡ made_of call answer rest s.poc → x ≡ w → Calls answer keys rows s.rest keys' rows' rest w
       → Makes made s keys rows keys' rows' (on_state call m x)
-  state-makes {r = r} {keys'} {rows'} {x} e f calls =
+  state-makes {answer = answer} {rest} {keys'} {rows'} {x} e f calls =
       let c = calls.comes in
-      let pm-is : stands keys' rows' r.rest ≡ x.pm = c.stands_for ∙ ap (λ (y : PmResult). y.pm) (sym f) in
+      let pm-is : stands keys' rows' rest ≡ x.pm = c.stands_for ∙ ap (λ (y : PmResult). y.pm) (sym f) in
       rw e (record {
         replies = ap (reply_of call) (c.answers ∙ ap (λ (y : PmResult). y.answer) (sym f));
         machine_is = rw (pm-is, c.lists_stay) refl;
         other_rows = λ b kept no. calls.other_rows b (λ n a. no (sym (ap (λ (y : Answer). (reply_of call y).buf) a)));
         still_sized = c.still_sized;
-        refused_leaves = λ t. refused-answer call r.answer t (λ why a.
+        refused_leaves = λ t. refused-answer call answer t (λ why a.
             let u = calls.untouched why a in
-            record { same_keys = u.same_keys; same_rows = u.same_rows; same_scalars = rest_stays r u.same_rest });
+            record { same_keys = u.same_keys; same_rows = u.same_rows; same_scalars = rest_stays rest u.same_rest });
       })
 
   -- A call on state and lists.
   pub lists-makes : {made : Made} {r : Called} {rows' : List ℕ} {c : RefpCall} {x : RefpResult}
-      → eqb call 5 ≡ true → made ≡ made_of call r s.poc → x ≡ lists_whole (stands keys rows s.rest) (lists_in rows) c → ListsCame r keys rows rows' s.rest c
+      → eqb call 5 ≡ true → made ≡ made_of call r.answer r.rest s.poc → x ≡ lists_whole (stands keys rows s.rest) (lists_in rows) c → ListsCame r keys rows rows' s.rest c
       → Makes made s keys rows keys rows' (on_lists call m x)
   lists-makes {r = r} {rows'} {x = x} five e f came =
       let c = came.comes in
@@ -137,7 +137,7 @@ module _ (keys rows : List ℕ) (s : Scalars) (call : ℕ) where
         still_sized = c.lists_sized;
         refused_leaves = λ t. refused-answer call r.answer t (λ why a.
             let u = came.refused_leaves why a in
-            record { same_keys = refl; same_rows = u.0; same_scalars = rest_stays r u.1 });
+            record { same_keys = refl; same_rows = u.0; same_scalars = rest_stays r.rest u.1 });
       })
 
 -- A derivation.
@@ -192,7 +192,7 @@ not-whole-step m (PocDerivation L t) r w = absurd (Bool.false≢true r)
 
 module _ {keys rows : List ℕ} (s : Scalars) (sized : Sized keys rows) where
   abbrev refused_made : Call → Made
-  refused_made call = made_of (call_byte call) (record { answer = Refused StateNotWhole; rest = s.rest }) s.poc
+  refused_made call = made_of (call_byte call) (Refused StateNotWhole) s.rest s.poc
 
   pub refused-makes : (call : Call) → is_ready keys rows s call ≡ false → (made : Made) → made ≡ refused_made call
       → Makes made s keys rows keys rows (step (machine_in keys rows s) call)

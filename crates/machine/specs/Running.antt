@@ -4,7 +4,8 @@ use Rattle.std.specs.Prelude.{◌≡◌, Bool, true, false, cond, not, ◌||◌,
 use Rattle.def.specs.declared.EvcPoc.{EvcPoc}
 use Rattle.keys.specs.Keys.{row_at, row_count, stands, lists_in, Sized}
 use Rattle.def.specs.State.{slots}
-use Rattle.keys.specs.declared.Called.{Called}
+use Rattle.def.specs.declared.Answer.{Answer}
+use Rattle.keys.specs.declared.Rest.{Rest}
 use Rattle.poc.specs.PictureNumber.{derive, record_of}
 use Rattle.line.specs.declared.{Call.Call, Reply.Reply}
 use Rattle.line.specs.declared.Call.TheVariants.{Init, GetEmptyPic, PutPic, OutPic, RefpInit, PocDerivation}
@@ -67,8 +68,8 @@ abbrev pub MakesCall : Made → Scalars → List ℕ → List ℕ → List ℕ �
 MakesCall r s keys rows keys' rows' call = Makes r s keys rows keys' rows' (step (machine_in keys rows s) call)
 
 -- A call's answer as a reply; state and lists are the call's, the record stays.
-abbrev pub made_of : ℕ → Called → EvcPoc → Made
-made_of call r poc = record { reply = reply_of call r.answer; scalars = record { rest = r.rest; poc = poc } }
+abbrev pub made_of : ℕ → Answer → Rest → EvcPoc → Made
+made_of call answer rest poc = record { reply = reply_of call answer; scalars = record { rest = rest; poc = poc } }
 
 -- What a derivation comes to; the state stays.
 abbrev pub derived_of : Scalars → ℕ → ℕ → Made

@@ -1,7 +1,6 @@
 -- The claims of specs/Claims.antt.
 -- Assumes nothing.
 use mathlib.Core.Path.{refl, sym}
-use Rattle.keys.specs.declared.Called.{Called}
 use Rattle.def.specs.declared.{Answer.Answer, Refusal.Refusal}
 use Rattle.machine.specs.declared.Scalars.{Scalars}
 use Rattle.machine.specs.Step.{step_line}
@@ -19,6 +18,5 @@ pub not-whole : NotWhole
 unfolding reply_to step_line
 not-whole s call e reads w =
     let scalars : Scalars = scalars_at s.registers in
-    let called : Called = record { answer = Answer.Refused Refusal.StateNotWhole; rest = scalars.rest } in
-    let makes = running.refused-makes scalars (sized-long s e).0 call (rw (reads, w)) (made_of (call_byte call) called scalars.poc) refl in
+    let makes = running.refused-makes scalars (sized-long s e).0 call (rw (reads, w)) (made_of (call_byte call) (Answer.Refused Refusal.StateNotWhole) scalars.rest scalars.poc) refl in
     rw e (sym makes.replies)

@@ -16,13 +16,12 @@ pub record Roomy (t : Tally) : Type 0 where
 
 -- A key without a picture.
 abbrev pub strayed : Tally → ℕ → Tally
-strayed t k = record { stray = bit_or t.stray k; high = t.high; occupied = t.occupied; marked = t.marked; set = t.set; sum = t.sum }
+strayed t k = record t { stray = bit_or t.stray k }
 
 -- A key with a picture.
 abbrev pub gathered : Tally → ℕ → Tally
 gathered t k =
-    record {
-      stray = t.stray;
+    record t {
       high = bit_or t.high k;
       occupied = t.occupied + 1;
       marked = t.marked + k / 2 % 2;

@@ -1,6 +1,4 @@
 // What one pass over the keys of a state gathers, three keys at a time, over any bits: what the test of a whole state is told from.
-#![tactic(auto)]
-
 ghost use Rattle.std.specs.Prelude.{◌≡◌, length};
 ghost use Rattle.def.specs.State.{slots};
 ghost use Rattle.wholeness.specs.Tallies.{Roomy, no_tally, tallied, tally_all};
@@ -27,21 +25,17 @@ pub fn tally_key(t: Tally, key: u64) -> Tally
     if !is_present(key) {
         return Tally {
             stray: t.stray | key,
-            high: t.high,
-            occupied: t.occupied,
-            marked: t.marked,
-            set: t.set,
-            sum: t.sum,
+            ..t
         };
     }
     let bit = (1u32 << (key / 8 % 32)) as u64;
     Tally {
-        stray: t.stray,
         high: t.high | key,
         occupied: t.occupied + 1,
         marked: t.marked + key / 2 % 2,
         set: t.set | bit,
         sum: t.sum + bit,
+        ..t
     }
 }
 
@@ -70,10 +64,8 @@ pub fn tally_all(keys: &[u64]) -> Tally
         set: 0,
         sum: 0,
     };
-    let mut i: usize = 0;
-    while i < SLOTS {
-        t = tally_three(t, keys[i], keys[i + 1], keys[i + 2]);
-        i = i + 3;
+    for i in 0..SLOTS / 3 {
+        t = tally_three(t, keys[3 * i], keys[3 * i + 1], keys[3 * i + 2]);
     }
     t
 }

@@ -1,7 +1,7 @@
--- `calls::put_call` meets its contract. Assumes nothing.
 use Rattle.machine.proofs.Running.{state-makes, put-on-whole}
 use Rattle.calls.proofs.put_call.Goals as goal
 
 pub returns : goal.returns
 returns c =
-    state-makes c.args.keys.now c.args.rows.now c.args.s 3 c.made.ensures (put-on-whole _ _ c.args.call c.requires.whole_state) c.put.ensures
+    let a = c.args in
+    state-makes a.keys.now a.rows.now a.s 3 (rw (← c.put_answer.ensures) c.made.ensures) (put-on-whole _ _ a.call c.requires.whole_state) c.put-placed.ensures

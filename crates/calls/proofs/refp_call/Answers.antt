@@ -6,4 +6,4 @@ use Rattle.calls.proofs.refp_call.Goals as goal
 
 pub returns : goal.returns
 returns c =
-    lists-makes c.args.keys.now c.args.rows.now c.args.s 5 refl c.made.ensures (on-whole _ _ c.args.call c.requires.whole_state) c.refp_init.ensures
+    lists-makes c.args.keys.now c.args.rows.now c.args.s 5 refl c.made.ensures (on-whole _ _ c.args.call c.requires.whole_state) c.refp_init-called.ensures

@@ -14,4 +14,4 @@ make_call-requires c =
 pub returns : goal.returns
 returns c =
     refused-makes c.args.s c.requires c.args.call (sym (c.is_ready.ensures c.args.rows.now) ∙ c.if-is_ready.false) c.made.result
-    (c.made.ensures ∙ ap (λ (n : ℕ). made_of n (record { answer = Refused StateNotWhole; rest = c.args.s.rest }) c.args.s.poc) c.call_byte.ensures)
+    (c.made.ensures ∙ ap (λ (n : ℕ). made_of n (Refused StateNotWhole) c.args.s.rest c.args.s.poc) c.call_byte.ensures)

@@ -1,4 +1,4 @@
--- `apart::take_apart` meets its contract: the slots are taken, and then the lease. Assumes nothing.
+-- the slots are taken, and then the lease. Assumes nothing.
 use Rattle.conversion.proofs.Taken.{apart-done}
 use Rattle.conversion.proofs.apart.take_apart.Goals as goal
 

@@ -1,4 +1,4 @@
--- `apart::take_slots` meets its contract: the slots below place i are taken. Assumes nothing.
+-- the slots below place i are taken. Assumes nothing.
 use native.Mathlib.Omega.{arith}
 use Rattle.conversion.proofs.Taken.{taking-turn, taking-end}
 use Rattle.conversion.proofs.apart.take_slots.Goals as goal

@@ -1,6 +1,4 @@
-use mathlib.Core.Path.{◌≡◌}
-use Prim.Native.Nat.{◌≤◌, ◌-◌}
-use lib.ListN.{length}
+use Rattle.std.proofs.Common.{◌≡◌, ◌≤◌, length}
 use Rattle.def.specs.State.{slots}
 use Rattle.keys.specs.Keys.{Sized}
 use Rattle.conversion.proofs.Taken.{Taking}
@@ -8,6 +6,3 @@ use Rattle.conversion.proofs.apart.take_slots.Given as goal
 
 abbrev pub invariant-loop-i : goal.invariant-loop-i
 invariant-loop-i l = (l.i ≤ slots) × (length l.pic ≡ slots) × Sized l.keys l.rows × Taking l.pic l.initial.rows l.keys l.rows l.i
-
-abbrev pub decreases-loop-i : goal.decreases-loop-i
-decreases-loop-i l = slots - l.i

@@ -1,4 +1,4 @@
--- `keying::take_slot` meets its contract: by whether the slot keeps its own rules, and whether a picture is there. Assumes nothing.
+-- by whether the slot keeps its own rules, and whether a picture is there. Assumes nothing.
 use mathlib.Core.Path.{sym, ◌∙◌}
 use native.Mathlib.Omega.{arith}
 use Rattle.conversion.proofs.KeyedLaws.{key-stray, key-none, key-held, rows-kept, rows_none, rows-held, buffer_below}
@@ -23,7 +23,7 @@ pub write_row-requires : goal.write_row-requires
 write_row-requires c =
     let s = c.args.s in
     let b = buffer_below s (sym c.slot_fits.ensures ∙ c.if-not-slot_fits.false) (not-false _ c.if-not-s.false) in
-    (search rules, search rules, omega arith)
+    (search rules, omega arith)
 
 pub key_of-requires : goal.key_of-requires
 key_of-requires c =

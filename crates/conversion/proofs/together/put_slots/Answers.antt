@@ -1,4 +1,4 @@
--- `together::put_slots` meets its contract: the slots below place i are made. Assumes nothing.
+-- the slots below place i are made. Assumes nothing.
 use mathlib.Core.Path.{refl, sym, ap, ◌∙◌}
 use mathlib.Core.List.{map}
 use native.Mathlib.Omega.{arith}
@@ -11,8 +11,8 @@ use Rattle.conversion.proofs.together.put_slots.Goals as goal
 pub loop-i-init : goal.loop-i-init
 loop-i-init c = (omega arith, c.requires.0, c.requires.1, refl, refl)
 
-pub slot_of-s-requires : goal.slot_of-s-requires
-slot_of-s-requires c = let l = c.loop-i in (l.invariant.1.rows_long, l.invariant.2 l.i (omega arith))
+pub slot_of-requires : goal.slot_of-requires
+slot_of-requires c = let l = c.loop-i in (l.invariant.1.rows_long, l.invariant.2 l.i (omega arith))
 
 pub loop-i-preserved : goal.loop-i-preserved
 loop-i-preserved c =
@@ -21,7 +21,7 @@ loop-i-preserved c =
       l.invariant.1,
       l.invariant.2,
       simp length-set l.invariant.3,
-      rw c.slot_of-s.ensures (fill-turn (slot_at c.args.rows.now) 0 c.args.keys.now l.pic l.i (omega arith) (omega arith) l.invariant.4),
+      rw c.slot_of.ensures (fill-turn (slot_at c.args.rows.now) 0 c.args.keys.now l.pic l.i (omega arith) (omega arith) l.invariant.4),
     )
 
 pub returns : goal.returns

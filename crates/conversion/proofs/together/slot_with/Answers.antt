@@ -1,5 +1,5 @@
--- `together::slot_with` meets its contract: by what its parts ensure. Assumes nothing.
+-- by what its parts ensure. Assumes nothing.
 use Rattle.conversion.proofs.together.slot_with.Goals as goal
 
 pub returns : goal.returns
-returns c = rw (c.buffer_byte.ensures, c.layer_of.ensures, c.number_of.ensures)
+returns c = rw (c.buffer_byte.ensures, c.layer_of.ensures, c.number_of.ensures, c.is_present.ensures)

@@ -1,4 +1,4 @@
--- `entry::get::evc_picman_get_empty_pic` meets its contract: a state that is not whole is handed back, and else the core's call is
+-- a state that is not whole is handed back, and else the core's call is
 -- the definition's. Assumes nothing.
 use mathlib.Core.Path.{◌∙◌}
 use borrow.Author.Tests.{not-true, not-false}

@@ -1,4 +1,4 @@
--- `starting::evc_picman_init` meets its contract: a state that is not whole is handed back, and else the core's call is the definition's. Assumes nothing.
+-- a state that is not whole is handed back, and else the core's call is the definition's. Assumes nothing.
 use mathlib.Core.Path.{◌∙◌}
 use borrow.Author.Tests.{not-true, not-false}
 use Rattle.entry.proofs.Calling.{turned-away, still-whole, comes_to}

@@ -1,4 +1,3 @@
--- `opening::finished` meets its contract. Assumes nothing.
 use mathlib.Core.Path.{refl}
 use Rattle.entry.proofs.opening.finished.Goals as goal
 

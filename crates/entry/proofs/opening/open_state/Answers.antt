@@ -1,4 +1,4 @@
--- `opening::open_state` meets its contract: the test on the keys is one on the state. Assumes nothing.
+-- the test on the keys is one on the state. Assumes nothing.
 use mathlib.Core.Path.{◌∙◌}
 use Rattle.entry.proofs.opening.open_state.Goals as goal
 

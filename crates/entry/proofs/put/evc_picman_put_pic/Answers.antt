@@ -1,4 +1,4 @@
--- `entry::put::evc_picman_put_pic` meets its contract: a state that is not whole is handed back, and else the core's call is the definition's. Assumes nothing.
+-- a state that is not whole is handed back, and else the core's call is the definition's. Assumes nothing.
 use mathlib.Core.Path.{◌∙◌}
 use mathlib.Core.List.{List}
 use Prim.Native.Nat.{ℕ}

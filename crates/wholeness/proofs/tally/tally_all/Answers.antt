@@ -1,7 +1,7 @@
--- `tallying::tally_all` meets its contract: what is gathered so far, with what is left, gives what all keys give. Assumes nothing.
+-- What is gathered so far, with what is left, gives what all keys give.
 use mathlib.Core.Path.{◌≡◌, refl}
 use mathlib.Core.List.{List}
-use Prim.Native.Nat.{ℕ, ◌+◌, ◌<◌}
+use Prim.Native.Nat.{ℕ, ◌+◌, ◌*◌, ◌<◌}
 use native.Mathlib.Omega.{arith}
 use lib.ListN.{length, get_or}
 use Rattle.def.specs.State.{slots}
@@ -25,11 +25,16 @@ module _ (keys : List ℕ) {t : Tally} {i : ℕ} (p : Passing keys t i) (more : 
   room : Roomy t × Roomy (tallied t (get_or keys i 0)) × Roomy (tallied (tallied t (get_or keys i 0)) (get_or keys (i + 1) 0))
   room = (passing-room keys p (omega arith), passing-room keys first (omega arith), passing-room keys second (omega arith))
 
+pub tally_three-t-requires : goal.tally_three-t-requires
+tally_three-t-requires c = room c.args.keys.now c.loop-i.invariant (omega (arith, c.requires)) c.requires
+
 pub loop-i-preserved : goal.loop-i-preserved
 loop-i-preserved c =
-    let at-loop = c in
-    let l = at-loop.loop-i in
-    (omega arith, omega arith, l.invariant.2, rw c.tally_three-t.ensures (third at-loop.args.keys.now l.invariant.3 (omega arith) l.invariant.2))
+    let l = c.loop-i in
+    let next : 3 * l.i + 3 ≡ 3 * (l.i + 1) = omega arith in
+    rw (c.tally_three-t.ensures, ← next) (third c.args.keys.now l.invariant (omega (arith, c.requires)) c.requires)
 
 pub returns : goal.returns
-returns c = let l = c.loop-i in (passing-end _ l.invariant.3 (omega arith), passing-room _ l.invariant.3 l.invariant.0)
+returns c =
+    let l = c.loop-i in
+    (passing-end c.args.keys.now l.invariant (omega (arith, c.requires)), passing-room c.args.keys.now l.invariant (omega (arith, c.requires)))

@@ -1,4 +1,4 @@
--- `tallying::tally_three` meets its contract: the key of an empty slot adds nothing, and else each key is gathered in turn. Assumes nothing.
+-- The key of an empty slot adds nothing.
 use mathlib.Core.Path.{◌≡◌, sym, ◌∙◌}
 use mathlib.Core.Bool.{true, ◌&&◌}
 use Prim.Native.Nat.{ℕ}
