@@ -17,6 +17,7 @@ use derivation::evc_poc_derivation;
 use line::{GET_EMPTY_PIC, INIT, OUT_PIC, PUT_PIC, REFP_INIT, Reply, reply_of};
 use machine::Scalars;
 use machine::fields::derived_reply;
+use picman::answer::{get_answer, init_answer, out_answer, put_answer};
 use refp::lists_answer;
 
 pub fn init_call(
@@ -31,9 +32,8 @@ pub fn init_call(
         Makes result s.new s.old keys.now rows.now keys.now rows.now
         (on_state 1 m (init m.pm max_pb_size max_num_ref_pics)) }
 {
-    let called = picman::init::init(s.rest, max_pb_size, max_num_ref_pics);
-    s.rest = called.rest;
-    reply_of(INIT, called.answer)
+    let done = picman::init::init(&mut s.rest, max_pb_size, max_num_ref_pics);
+    reply_of(INIT, init_answer(done))
 }
 
 pub fn get_call(keys: &mut [u64], rows: &mut [u32], s: &mut Scalars) -> Reply
@@ -41,9 +41,8 @@ pub fn get_call(keys: &mut [u64], rows: &mut [u32], s: &mut Scalars) -> Reply
     ensures { let m = machine_in keys.old rows.old s.old in
         Makes result s.new s.old keys.old rows.old keys.new rows.new (on_state 2 m (get m.pm)) }
 {
-    let called = leasing::get(keys, rows, s.rest);
-    s.rest = called.rest;
-    reply_of(GET_EMPTY_PIC, called.answer)
+    let leased = picman::get::get(keys, rows, &mut s.rest);
+    reply_of(GET_EMPTY_PIC, get_answer(leased))
 }
 
 pub fn put_call(keys: &mut [u64], rows: &mut [u32], s: &mut Scalars, call: PutCall) -> Reply
@@ -52,9 +51,8 @@ pub fn put_call(keys: &mut [u64], rows: &mut [u32], s: &mut Scalars, call: PutCa
         Makes result s.new s.old keys.old rows.old keys.new rows.new
         (on_state 3 m (put m.pm m.refp call)) }
 {
-    let called = putting::put(keys, rows, s.rest, call);
-    s.rest = called.rest;
-    reply_of(PUT_PIC, called.answer)
+    let placed = picman::put::put(keys, rows, &mut s.rest, call);
+    reply_of(PUT_PIC, put_answer(placed))
 }
 
 pub fn out_call(keys: &mut [u64], rows: &[u32], s: &mut Scalars) -> Reply
@@ -62,9 +60,8 @@ pub fn out_call(keys: &mut [u64], rows: &[u32], s: &mut Scalars) -> Reply
     ensures { let m = machine_in keys.old rows.now s.old in
         Makes result s.new s.old keys.old rows.now keys.new rows.now (on_state 4 m (out m.pm)) }
 {
-    let called = handing::out(keys, s.rest);
-    s.rest = called.rest;
-    reply_of(OUT_PIC, called.answer)
+    let handed = picman::out::out(keys, &mut s.rest);
+    reply_of(OUT_PIC, out_answer(handed))
 }
 
 pub fn refp_call(keys: &[u64], rows: &mut [u32], s: &mut Scalars, call: RefpCall) -> Reply

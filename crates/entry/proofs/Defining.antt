@@ -13,9 +13,9 @@ use Rattle.picman.specs.Out.{out, out_whole}
 use Rattle.picman.proofs.GetKeeps.{get-keeps-whole}
 use Rattle.picman.proofs.PutLaws.{put-safe}
 use Rattle.picman.proofs.OutLaws.{out-keeps-whole}
-use Rattle.opening.specs.declared.{Opened.Opened}
-use Rattle.opening.specs.Opening.{Opens}
-use Rattle.opening.proofs.Calling.{Defined}
+use Rattle.entry.specs.declared.opening.{Opened.Opened}
+use Rattle.entry.specs.Opening.{Opens}
+use Rattle.entry.proofs.Calling.{Defined}
 
 pub get-defined : Defined get get_whole
 unfolding get

@@ -1,1 +1,3 @@
 mod Defining
+pub mod Opening
+pub mod Calling

@@ -4,7 +4,7 @@ ghost use Rattle.picman.specs.Get.{get};
 
 use def::{EvcPm, PmResult};
 use keys::{ROWS, SLOTS};
-use opening::{finished, not_whole, open_state};
+use crate::opening::{finished, not_whole, open_state};
 
 pub fn evc_picman_get_empty_pic(pm: EvcPm) -> PmResult
     ensures { result ≡ get pm }
@@ -15,6 +15,6 @@ pub fn evc_picman_get_empty_pic(pm: EvcPm) -> PmResult
     if !state.is_whole {
         return not_whole(pm);
     }
-    let called = leasing::get(&mut keys, &mut rows, state.rest);
+    let called = picman::get::get(&mut keys, &mut rows, state.rest);
     finished(&keys, &rows, called)
 }

@@ -4,7 +4,7 @@ ghost use Rattle.picman.specs.Out.{out};
 
 use def::{EvcPm, PmResult};
 use keys::{ROWS, SLOTS};
-use opening::{finished, not_whole, open_state};
+use crate::opening::{finished, not_whole, open_state};
 
 pub fn evc_picman_out_pic(pm: EvcPm) -> PmResult
     ensures { result ≡ out pm }
@@ -15,6 +15,6 @@ pub fn evc_picman_out_pic(pm: EvcPm) -> PmResult
     if !state.is_whole {
         return not_whole(pm);
     }
-    let called = handing::out(&mut keys, state.rest);
+    let called = picman::out::out(&mut keys, state.rest);
     finished(&keys, &rows, called)
 }

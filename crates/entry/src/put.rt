@@ -5,7 +5,7 @@ ghost use Rattle.picman.specs.Put.{put};
 use def::{EvcPm, EvcRefP, PmResult, PutCall, REFP_PLACES};
 use entries::take_lists;
 use keys::{ROWS, SLOTS};
-use opening::{finished, not_whole, open_state};
+use crate::opening::{finished, not_whole, open_state};
 
 pub fn evc_picman_put_pic(pm: EvcPm, refp: [EvcRefP; REFP_PLACES], call: PutCall) -> PmResult
     ensures { result ≡ put pm refp call }
@@ -17,6 +17,6 @@ pub fn evc_picman_put_pic(pm: EvcPm, refp: [EvcRefP; REFP_PLACES], call: PutCall
     if !state.is_whole {
         return not_whole(pm);
     }
-    let called = putting::put(&mut keys, &mut rows, state.rest, call);
+    let called = picman::put::put(&mut keys, &mut rows, state.rest, call);
     finished(&keys, &rows, called)
 }

@@ -9,9 +9,9 @@ use Rattle.def.specs.declared.{EvcPm.EvcPm, EvcRefP.EvcRefP, RefpCall.RefpCall, 
 use Rattle.keys.specs.Keys.{slot_at}
 use Rattle.reasons.specs.declared.Reason.{Reason}
 use Rattle.reasons.specs.Reasons.{why_whole, why}
-use Rattle.opening.specs.declared.{Opened.Opened}
-use Rattle.opening.specs.Opening.{Opens}
-use Rattle.opening.proofs.Opening.{came-whole, came-broken, opened-is}
+use Rattle.entry.specs.declared.opening.{Opened.Opened}
+use Rattle.entry.specs.Opening.{Opens}
+use Rattle.entry.proofs.Opening.{came-whole, came-broken, opened-is}
 
 module _ {pm : EvcPm} {refp : List EvcRefP} {keys rows : List ℕ} {o : Opened} (p : Opens pm refp keys rows o) (c : RefpCall) (slot : ℕ) where
   pub why-turned-away : o.is_whole ≡ false → Err Refusal.StateNotWhole ≡ why pm c slot

@@ -7,8 +7,8 @@ ghost use Rattle.reasons.specs.Reasons.{why};
 
 use def::{EvcPm, RefpCall, Refusal};
 use judging::why_on;
+use entry::opening::open_state;
 use keys::{ROWS, SLOTS};
-use opening::open_state;
 use reasons::Reason;
 
 pub fn evc_picman_why(pm: EvcPm, call: RefpCall, slot: u8) -> Result<Reason, Refusal>

@@ -4,12 +4,10 @@ use mathlib.Core.Path.{◌≡◌, sym, ap, ◌∙◌}
 use mathlib.Core.List.{List, [], ◌∷◌, ◌++◌, append_assoc, append-nil}
 use Prim.Native.Nat.{ℕ, zero, suc, ◌+◌, ◌*◌, ◌-◌, ◌<◌, ◌≤◌}
 use mathlib.Core.Logic.{◌⊎◌, inl, inr}
-use native.Mathlib.Numerals.{add-one}
 use native.Mathlib.Omega.{arith}
-use lib.ListN.{length, get_or, take, drop, set, length-set, length-drop, drop_of_length-le}
-use lib.Seq.{paste, paste-zero, paste-suc, get_or-take, get_or-drop, length-take-le, drop_at, drop-drop, drop-append-le, take-append-le, take-take, drop-paste, take_all, take-nil, take-append-add}
+use lib.ListN.{length, get_or, take, drop, length-drop, drop_of_length-le}
+use lib.Seq.{paste, get_or-take, get_or-drop, length-take-le, drop_at, drop-drop, drop-append-le, take-append-le, take-take, drop-paste, take_all, take-nil, take-append-add}
 use Rattle.seq.proofs.Tests.{lt-or-ge}
-use Rattle.seq.proofs.Maps.{copy-turn}
 use Rattle.keys.specs.Keys.{rows_length, row_count, row_at}
 
 pub drop-take : {A : Type 0} (n m : ℕ) (l : List A) → drop n (take m l) ≡ take (m - n) (drop n l)
@@ -72,45 +70,13 @@ module _ (rows : List ℕ) (b : ℕ) (ns : List ℕ) (n : ℕ) (long : length ro
           ∙ ap (take 21) (drop-drop m (21 * b + n) rows)
           ∙ ap (λ (k : ℕ). take 21 (drop k rows)) (sym at)
 
--- a loop that reads a row
-pub row-turn : (rows row : List ℕ) (at j : ℕ) → at + 21 ≤ length rows → j < 21 → length row ≡ 21 → take j row ≡ take j (drop at rows)
-    → take (j + 1) (set row j (get_or rows (at + j) 0)) ≡ take (j + 1) (drop at rows)
-row-turn rows row at j h k l e =
-    rw (← get_or-drop at rows j 0)
-    (copy-turn 0 (drop at rows) row j (omega (arith, length-drop at rows)) (omega arith) e)
-
-pub row_read : (rows row : List ℕ) (b j : ℕ) → 21 ≤ j → j ≤ 21 → length row ≡ 21 → take j row ≡ take j (drop (21 * b) rows) → row ≡ row_at rows b
+-- The first n numbers of a row that is pasted are those that stand from its place on.
+pub row-pasted : (rows : List ℕ) (b at n : ℕ) → n ≤ 21 → paste rows at (drop (21 * b) rows) n ≡ paste rows at (row_at rows b) n
 unfolding row_at
-row_read rows row b j h k l e =
-    let f : j ≡ 21 = omega arith in
-    sym (take_all j row (omega arith)) ∙ e ∙ ap (λ (n : ℕ). take n (drop (21 * b) rows)) f
+row-pasted rows b at n few =
+    ap (λ (x : List ℕ). (take at rows ++ x) ++ drop (at + n) rows) (sym (take-take n 21 (drop (21 * b) rows) few))
 
--- a loop that writes the first n of these numbers, from a place on, has come to place j
-pub record Pasting (before : List ℕ) (at : ℕ) (ns : List ℕ) (n j : ℕ) (rows : List ℕ) : Type 0 where
-  pub within : j ≤ n
-  pub long : length rows ≡ rows_length
-  pub so_far : rows ≡ paste before at ns j
-
-module _ (before : List ℕ) (at : ℕ) (ns : List ℕ) (n : ℕ) where
-  pub pasting-none : length before ≡ rows_length → Pasting before at ns n 0 before
-  pasting-none h = record { within = omega arith; long = h; so_far = paste-zero before at ns }
-
-  pub pasting-turn : (j : ℕ) (rows : List ℕ) (v : ℕ) → Pasting before at ns n j rows → length before ≡ rows_length → at + n ≤ rows_length → n ≤ length ns → j < n
-      → v ≡ get_or ns j 0 → Pasting before at ns n (j + 1) (set rows (at + j) v)
-  pasting-turn j rows v p h room there l e = record {
-    within = omega arith;
-    long = length-set rows (at + j) v ∙ p.long;
-    so_far =
-        rw p.so_far
-        (ap (set (paste before at ns j) (at + j)) e
-        ∙ paste-suc before at ns j 0 (omega arith) (omega arith)
-        ∙ ap (paste before at ns) (sym (add-one j)));
-  }
-
-  pub pasting-end : (j : ℕ) (rows : List ℕ) → Pasting before at ns n j rows → n ≤ j → rows ≡ paste before at ns n
-  pasting-end j rows p h = let w = p.within in let e : j ≡ n = omega arith in p.so_far ∙ ap (paste before at ns) e
-
--- a number of a row, and the same while another row is written
+-- a number of a row
 pub row_number : (rows : List ℕ) (b j : ℕ) → j < 21 → get_or (row_at rows b) j 0 ≡ get_or rows (21 * b + j) 0
 unfolding row_at
 row_number rows b j h = get_or-take 21 (drop (21 * b) rows) j 0 h ∙ get_or-drop (21 * b) rows j 0

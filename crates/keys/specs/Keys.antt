@@ -6,7 +6,7 @@ use Rattle.std.specs.Prelude.{ℕ, ◌+◌, ◌-◌, ◌*◌, ◌/◌, ◌%◌, 
 use mir.Val.{bool_byte}
 use Rattle.seq.specs.Lists.{select, entries}
 use Rattle.def.specs.State.{slots, list_places}
-use Rattle.def.specs.declared.{Slot.Slot, EvcPm.EvcPm, EvcRefP.EvcRefP, PmResult.PmResult, RefpResult.RefpResult}
+use Rattle.def.specs.declared.{Answer.Answer, Slot.Slot, EvcPm.EvcPm, EvcRefP.EvcRefP, PmResult.PmResult, RefpResult.RefpResult}
 use Rattle.keys.specs.declared.{Rest.Rest, Called.Called}
 
 -- ---- a key
@@ -133,9 +133,9 @@ pub record Sized (keys rows : List ℕ) : Type 0 where
   pub rows_long : length rows ≡ rows_length
 
 -- A call on the state comes to what its definition says of the state that the arrays stood for; the lists are as they were.
-pub record Comes (r : Called) (keys rows : List ℕ) (lists : List EvcRefP) (wanted : PmResult) : Type 0 where
-  pub answers : r.answer ≡ wanted.answer
-  pub stands_for : stands keys rows r.rest ≡ wanted.pm
+pub record Comes (answer : Answer) (keys rows : List ℕ) (rest : Rest) (lists : List EvcRefP) (wanted : PmResult) : Type 0 where
+  pub answers : answer ≡ wanted.answer
+  pub stands_for : stands keys rows rest ≡ wanted.pm
   pub lists_stay : lists_in rows ≡ lists
   pub still_sized : Sized keys rows
 
@@ -148,17 +148,7 @@ pub record ComesLists (r : Called) (keys rows : List ℕ) (wanted : RefpResult) 
 
 -- The rest with some parts replaced.
 abbrev pub with_lease : Rest → ℕ → ℕ → Rest
-with_lease r lease size = record {
-  lease = lease;
-  max_pb_size = r.max_pb_size;
-  max_num_ref_pics = r.max_num_ref_pics;
-  cur_pb_size = size;
-  cur_num_ref_pics = r.cur_num_ref_pics;
-  num_refp_0 = r.num_refp_0;
-  num_refp_1 = r.num_refp_1;
-  poc_next_output = r.poc_next_output;
-  poc_increase = r.poc_increase;
-}
+with_lease r lease size = record r { lease = lease; cur_pb_size = size }
 
 -- The buffer numbers that keys hold, as `buffers_of` says them of slots.
 abbrev pub key_buffers : List ℕ → List ℕ

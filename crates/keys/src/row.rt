@@ -10,13 +10,7 @@ pub fn copy_row(rows: &mut [u32], from: usize, to: usize, n: usize)
     requires { (length rows.old ≡ rows_length) × (from < row_count) × (to < row_count) × (from ≡ to → ⊥) × (n ≤ row_length) }
     ensures { rows.new ≡ paste rows.old (row_length * to) (row_at rows.old from) n }
 {
-    let source = ROW * from;
-    let target = ROW * to;
-    let mut j: usize = 0;
-    while j < n {
-        rows[target + j] = rows[source + j];
-        j = j + 1;
-    }
+    rows.copy_within(ROW * from..ROW * from + n, ROW * to);
 }
 
 // A row all zero.
@@ -24,38 +18,24 @@ pub fn clear_row(rows: &mut [u32], to: usize)
     requires { (length rows.old ≡ rows_length) × (to < row_count) }
     ensures { rows.new ≡ paste rows.old (row_length * to) (replicate row_length 0) row_length }
 {
-    let target = ROW * to;
-    let mut j: usize = 0;
-    while j < ROW {
-        rows[target + j] = 0;
-        j = j + 1;
-    }
+    rows[ROW * to..ROW * to + ROW].fill(0);
 }
 
 // A row by value, written.
 pub fn write_row(rows: &mut [u32], to: usize, numbers: &[u32; ROW])
-    requires { (length rows.old ≡ rows_length) × (length numbers.now ≡ row_length) × (to < row_count) }
+    requires { (length rows.old ≡ rows_length) × (to < row_count) }
     ensures { rows.new ≡ paste rows.old (row_length * to) numbers.now row_length }
 {
-    let target = ROW * to;
-    let mut j: usize = 0;
-    while j < ROW {
-        rows[target + j] = numbers[j];
-        j = j + 1;
-    }
+    rows[ROW * to..ROW * to + ROW].copy_from_slice(numbers);
 }
 
 // A row by value, read.
+#[tactic(auto, unfolding(crate::specs::Keys::row_at))]
 pub fn read_row(rows: &[u32], from: usize) -> [u32; ROW]
     requires { (length rows.now ≡ rows_length) × (from < row_count) }
     ensures { result ≡ row_at rows.now from }
 {
-    let mut numbers = [0u32; ROW];
-    let source = ROW * from;
-    let mut j: usize = 0;
-    while j < ROW {
-        numbers[j] = rows[source + j];
-        j = j + 1;
-    }
+    let mut numbers = [0; ROW];
+    numbers.copy_from_slice(&rows[ROW * from..ROW * from + ROW]);
     numbers
 }

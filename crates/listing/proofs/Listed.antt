@@ -10,9 +10,9 @@ use Rattle.keys.specs.Keys.{lists_in, stands, ComesLists}
 use Rattle.whole.specs.Whole.{whole}
 use Rattle.refp.specs.Lists.{lists_refused, lists, lists_whole}
 use Rattle.refp.proofs.ListLaws.{lists-stay-whole}
-use Rattle.opening.specs.declared.{Opened.Opened}
-use Rattle.opening.specs.Opening.{Opens}
-use Rattle.opening.proofs.Opening.{came-whole, came-broken, opened-is}
+use Rattle.entry.specs.declared.opening.{Opened.Opened}
+use Rattle.entry.specs.Opening.{Opens}
+use Rattle.entry.proofs.Opening.{came-whole, came-broken, opened-is}
 
 module _ {pm : EvcPm} {refp : List EvcRefP} {keys rows : List ℕ} {o : Opened} (p : Opens pm refp keys rows o) (c : RefpCall) where
   pub lists-turned-away : o.is_whole ≡ false → lists_refused Refusal.StateNotWhole pm refp ≡ lists pm refp c

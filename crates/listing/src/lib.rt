@@ -7,8 +7,8 @@ ghost use Rattle.refp.specs.Lists.{lists};
 
 use def::{Answer, EvcPm, EvcRefP, REFP_PLACES, RefpCall, RefpResult, Refusal};
 use entries::{put_lists, take_lists};
+use entry::opening::{finished, open_state};
 use keys::{Called, ROWS, SLOTS};
-use opening::{finished, open_state};
 use refp::lists_answer;
 
 pub fn evc_picman_refp_init(pm: EvcPm, refp: [EvcRefP; REFP_PLACES], call: RefpCall) -> RefpResult

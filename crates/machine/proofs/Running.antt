@@ -105,24 +105,24 @@ module _ (keys rows : List ℕ) (s : Scalars) (call : ℕ) where
   abbrev m : Machine
   m = machine_in keys rows s
 
-  rest_stays : (r : Called) → r.rest ≡ s.rest → with_rest s r.rest ≡ s
-  rest_stays r e = rw e refl
+  rest_stays : (rest : Rest) → rest ≡ s.rest → with_rest s rest ≡ s
+  rest_stays rest e = rw e refl
 
   -- A call on the state.
-  pub state-makes : {reply : Reply} {r : Called} {keys' rows' : List ℕ} {x w : PmResult}
-      → reply ≡ reply_of call r.answer → x ≡ w → Calls r keys rows s.rest keys' rows' w
-      → Makes reply (with_rest s r.rest) s keys rows keys' rows' (on_state call m x)
-  state-makes {r = r} {keys'} {rows'} {x} e f calls =
+  pub state-makes : {reply : Reply} {answer : Answer} {rest : Rest} {keys' rows' : List ℕ} {x w : PmResult}
+      → reply ≡ reply_of call answer → x ≡ w → Calls answer keys rows s.rest keys' rows' rest w
+      → Makes reply (with_rest s rest) s keys rows keys' rows' (on_state call m x)
+  state-makes {answer = answer} {rest} {keys'} {rows'} {x} e f calls =
       let c = calls.comes in
-      let pm-is : stands keys' rows' r.rest ≡ x.pm = c.stands_for ∙ ap (λ (y : PmResult). y.pm) (sym f) in
+      let pm-is : stands keys' rows' rest ≡ x.pm = c.stands_for ∙ ap (λ (y : PmResult). y.pm) (sym f) in
       rw e (record {
         replies = ap (reply_of call) (c.answers ∙ ap (λ (y : PmResult). y.answer) (sym f));
         machine_is = rw (pm-is, c.lists_stay) refl;
         other_rows = λ b kept no. calls.other_rows b (λ n a. no (sym (ap (λ (y : Answer). (reply_of call y).buf) a)));
         still_sized = c.still_sized;
-        refused_leaves = λ t. refused-answer call r.answer t (λ why a.
+        refused_leaves = λ t. refused-answer call answer t (λ why a.
             let u = calls.untouched why a in
-            record { same_keys = u.same_keys; same_rows = u.same_rows; same_scalars = rest_stays r u.same_rest });
+            record { same_keys = u.same_keys; same_rows = u.same_rows; same_scalars = rest_stays rest u.same_rest });
       })
 
   -- A call on state and lists.
@@ -142,7 +142,7 @@ module _ (keys rows : List ℕ) (s : Scalars) (call : ℕ) where
         still_sized = c.lists_sized;
         refused_leaves = λ t. refused-answer call r.answer t (λ why a.
             let u = came.refused_leaves why a in
-            record { same_keys = refl; same_rows = u.0; same_scalars = rest_stays r u.1 });
+            record { same_keys = refl; same_rows = u.0; same_scalars = rest_stays r.rest u.1 });
       })
 
 -- A derivation.

@@ -12,9 +12,11 @@ use lib.Seq.{get_or-set_same, get_or-set_other}
 use Rattle.seq.proofs.Tests.{lt-or-ge}
 use Rattle.seq.specs.Lists.{count_if, select_at, move_to}
 use Rattle.seq.proofs.Members.{map_at}
-use Rattle.seq.proofs.Partition.{select-same}
+use Rattle.seq.proofs.Partition.{select-same, Parted, both-lengths}
 use Rattle.seq.proofs.Orders.{reordered-move, count-length-same}
 use Rattle.seq.proofs.Maps.{map-append, map-set, map-map, map_same, map-count, map-select-at, map-move}
+use Rattle.std.specs.List.{count_by}
+use Rattle.store.proofs.Finding.{count-by}
 use Rattle.def.specs.declared.Slot.{Slot}
 use Rattle.def.specs.State.{slots, no_slot, is_marked, unmarked}
 use Rattle.keys.specs.Keys.{key_marked, key_unmarked, slot_at}
@@ -183,3 +185,15 @@ module _ (gap : ℕ) (keys : List ℕ) (picks : List Bool) (long : length keys �
           let before : List Slot = map (slot_at rows) after-sweep in
           let e : n ≡ excess before = rw (same_count rows after-sweep) in
           rw (k.walks_slots rows, u.unmarks_slots rows, u.notes_slots rows, e)
+
+-- the sweep begins: the first place of those picked is how many are not
+pub starts : (picks : List Bool) (keys next : List ℕ) (first : ℕ) → first ≡ count_by not picks → length picks ≡ length keys → length next ≡ length keys
+    → Parted (flagged picks) key_unmarked keys next first 0 0 0
+starts picks keys next first e long size =
+    record {
+      size = size;
+      front = refl;
+      back = refl;
+      front-left = omega (arith, e ∙ count-by not picks, kept-count picks keys long);
+      back-left = omega (arith, e ∙ count-by not picks, kept-count picks keys long, both-lengths (flagged {A = ℕ} picks) 0 keys);
+    }

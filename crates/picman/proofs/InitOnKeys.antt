@@ -11,27 +11,17 @@ use Rattle.def.specs.State.{slots, list_places}
 use Rattle.keys.specs.declared.Rest.{Rest}
 use Rattle.keys.specs.Keys.{stands, Sized}
 use Rattle.picman.specs.Init.{init_whole}
-use Rattle.picman.specs.OnKeys.{turned_down, Calls}
+use Rattle.picman.specs.OnKeys.{Calls}
 use Rattle.picman.proofs.Calls.{calls_by, calls-refused, calls-done}
 
 module _ (keys rows : List ℕ) (rest : Rest) (sized : Sized keys rows) (size refs : ℕ) where
   abbrev limited : Rest
-  limited = record {
-    lease = 0;
-    max_pb_size = size;
-    max_num_ref_pics = refs;
-    cur_pb_size = rest.cur_pb_size;
-    cur_num_ref_pics = rest.cur_num_ref_pics;
-    num_refp_0 = rest.num_refp_0;
-    num_refp_1 = rest.num_refp_1;
-    poc_next_output = rest.poc_next_output;
-    poc_increase = 1;
-  }
+  limited = record rest { lease = 0; max_pb_size = size; max_num_ref_pics = refs; poc_increase = 1 }
 
   pub on-too-big : (ltb slots size || ltb list_places refs) ≡ true
-      → Calls (turned_down Refusal.SizeTooBig rest) keys rows rest keys rows (init_whole (stands keys rows rest) size refs)
+      → Calls (Answer.Refused Refusal.SizeTooBig) keys rows rest keys rows rest (init_whole (stands keys rows rest) size refs)
   on-too-big t = calls_by (cond-true _ _ t) (calls-refused Refusal.SizeTooBig keys rows rest sized)
 
   pub on-set : (ltb slots size || ltb list_places refs) ≡ false
-      → Calls (record { answer = Answer.Done; rest = limited }) keys rows rest keys rows (init_whole (stands keys rows rest) size refs)
-  on-set t = calls_by (cond-false _ _ t) (calls-done refl (record { answers = refl; stands_for = refl; lists_stay = refl; still_sized = sized }))
+      → Calls Answer.Done keys rows rest keys rows limited (init_whole (stands keys rows rest) size refs)
+  on-set t = calls_by (cond-false _ _ t) (calls-done (record { answers = refl; stands_for = refl; lists_stay = refl; still_sized = sized }))

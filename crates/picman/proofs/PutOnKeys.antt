@@ -11,12 +11,16 @@ use mir.Val.{bool_byte}
 use lib.Dec.{eqb}
 use lib.ListN.{length, get_or, take, drop, set, length-set, length-map}
 use lib.Seq.{paste, length-paste}
-use Rattle.seq.specs.Lists.{count_if, select, highest, Distinct}
+use Rattle.seq.specs.Lists.{any_of, count_if, select, highest, Distinct}
 use Rattle.seq.proofs.Distinct.{distinct_apart}
 use Rattle.seq.proofs.Members.{select-mem, select-append, map_at}
-use Rattle.seq.proofs.Maps.{map-append, map-set, map-count, map-highest}
+use Rattle.seq.proofs.Maps.{map-append, map-set, map-count, map-any, map-highest}
 use Rattle.def.specs.declared.{EvcPm.EvcPm, PutCall.PutCall, Answer.Answer, Refusal.Refusal}
-use Rattle.keys.specs.declared.{Rest.Rest, Called.Called}
+use Rattle.std.specs.Prelude.{Some, None, Ok, Err}
+use Rattle.std.specs.Option.{ok_or}
+use Rattle.store.specs.Highest.{highest_place}
+use Rattle.picman.specs.declared.{Shown.Shown}
+use Rattle.keys.specs.declared.{Rest.Rest}
 use Rattle.def.specs.State.{slots, no_slot, is_present, is_marked, is_empty, buffer_of}
 use Rattle.keys.specs.Keys.{key_present, key_buffer, key_buffers, key_empty, key_made, key_unmarked, row_length, number_row, row_at, slot_at, lists_in, stands, Sized, Comes}
 use Rattle.keys.proofs.RowLaws.{row_written, row_other, row-length}
@@ -28,9 +32,9 @@ use Rattle.marking.proofs.OnKeys.{keys-unmarked}
 use Rattle.whole.specs.Whole.{whole, held_buffers}
 use Rattle.whole.proofs.Laws.{whole-rules}
 use Rattle.picman.specs.Put.{remarked, slot_taken, place_for, place, put_whole}
-use Rattle.picman.specs.OnKeys.{turned_down, marks_anew, with_refs, only_marked, key_place, PlaceRoom, Placed, Remarked, Calls}
+use Rattle.picman.specs.OnKeys.{shown_as, marks_anew, with_refs, only_marked, key_place, PlaceRoom, Placed, Remarked, Calls}
 use Rattle.picman.proofs.Keeps.{remarked-whole}
-use Rattle.picman.proofs.Places.{size_below, reference-place, highest-place}
+use Rattle.picman.proofs.Places.{size_below, reference-place, highest-place, empty-slot}
 use Rattle.picman.proofs.PutSteps.{stored, place-taken, place-stored, put-none, put-high, put-unleased, put-places}
 use Rattle.picman.proofs.Calls.{calls_by, calls-refused, calls-picture, calls-done}
 
@@ -99,52 +103,63 @@ module _ (keys rows : List ℕ) (rest : Rest) (sized : Sized keys rows) (w : who
   empty-in : highest key_empty keys < slots
   empty-in = let e = map-highest (slot_at rows) is_empty keys in let h = (highest-place c [] pm w size leased).0 in omega arith
 
+  -- some slot is empty
+  some-empty : any_of key_empty keys ≡ true
+  some-empty = sym (map-any (slot_at rows) is_empty keys) ∙ empty-slot c [] pm w size leased
+
   there : (get_or (map (slot_at rows) keys) rest.cur_num_ref_pics no_slot).present ≡ key_present (get_or keys rest.cur_num_ref_pics 0)
   there =
       let h = reference-in in
       rw (map_at (slot_at rows) keys rest.cur_num_ref_pics 0 no_slot (omega (arith, sized.slots_long)))
 
-  abbrev found : ℕ
-  found = key_place c.ref_pic rest.cur_num_ref_pics keys
-
   -- What was found tells whether the slot is taken, and the place.
-  pub found-taken : slots ≤ found → slot_taken c (stands keys rows rest) ≡ true
-  found-taken h = pick c.ref_pic (key_present (get_or keys rest.cur_num_ref_pics 0)) refl h
+  pub found-taken : (why : Refusal) → Err why ≡ key_place c.ref_pic rest.cur_num_ref_pics keys
+      → (slot_taken c (stands keys rows rest) ≡ true) × (why ≡ Refusal.SlotTaken)
+  found-taken why h = pick c.ref_pic (key_present (get_or keys rest.cur_num_ref_pics 0)) refl h
     where
       pick : (r t : Bool) → key_present (get_or keys rest.cur_num_ref_pics 0) ≡ t
-          → slots ≤ cond r (cond t slots rest.cur_num_ref_pics) (highest key_empty keys)
-          → (r && (get_or (map (slot_at rows) keys) rest.cur_num_ref_pics no_slot).present) ≡ true
-      pick true true e h = there ∙ e
-      pick true false e h = absurd (omega (arith, reference-in))
-      pick false t e h = absurd (omega (arith, empty-in))
+          → Err why ≡ ok_or (cond r (cond t None (Some rest.cur_num_ref_pics)) (highest_place key_empty keys)) Refusal.SlotTaken
+          → ((r && (get_or (map (slot_at rows) keys) rest.cur_num_ref_pics no_slot).present) ≡ true) × (why ≡ Refusal.SlotTaken)
+      pick true true e h = (there ∙ e, cc)
+      pick true false e h = cc
+      pick false t e h = let f = rw some-empty at h in cc
 
-  pub found-free : found < slots → (slot_taken c (stands keys rows rest) ≡ false) × (place_for c (stands keys rows rest) ≡ found)
-  found-free h = pick c.ref_pic (key_present (get_or keys rest.cur_num_ref_pics 0)) refl h
+  pub found-free : (found : ℕ) → Ok found ≡ key_place c.ref_pic rest.cur_num_ref_pics keys
+      → (slot_taken c (stands keys rows rest) ≡ false) × (place_for c (stands keys rows rest) ≡ found) × (found < slots)
+  found-free found h = pick c.ref_pic (key_present (get_or keys rest.cur_num_ref_pics 0)) refl h
     where
       pick : (r t : Bool) → key_present (get_or keys rest.cur_num_ref_pics 0) ≡ t
-          → cond r (cond t slots rest.cur_num_ref_pics) (highest key_empty keys) < slots
+          → Ok found ≡ ok_or (cond r (cond t None (Some rest.cur_num_ref_pics)) (highest_place key_empty keys)) Refusal.SlotTaken
           → ((r && (get_or (map (slot_at rows) keys) rest.cur_num_ref_pics no_slot).present) ≡ false)
-          × (cond r rest.cur_num_ref_pics (highest is_empty (map (slot_at rows) keys))
-          ≡ cond r (cond t slots rest.cur_num_ref_pics) (highest key_empty keys))
-      pick true true e h = absurd (omega arith)
-      pick true false e h = (there ∙ e, refl)
-      pick false t e h = (refl, map-highest (slot_at rows) is_empty keys)
+          × (cond r rest.cur_num_ref_pics (highest is_empty (map (slot_at rows) keys)) ≡ found)
+          × (found < slots)
+      pick true true e h = cc
+      pick true false e h = let q : found ≡ rest.cur_num_ref_pics = cc in (there ∙ e, sym q, rw q reference-in)
+      pick false t e h =
+          let f = rw some-empty at h in
+          let q : found ≡ highest key_empty keys = cc in
+          (refl, map-highest (slot_at rows) is_empty keys ∙ sym q, rw q empty-in)
 
   -- ---- the second part of a put, the state before marking being any
 
   module _ (before : List ℕ) (rest₀ : Rest) (long : length before ≡ slots) where
-    pub on-taken : slots ≤ found
-        → Calls (turned_down Refusal.SlotTaken rest₀) before rows rest₀ before rows (place (stands before rows rest₀) (stands keys rows rest) (lists_in rows) c)
-    on-taken h =
-        calls_by (place-taken (stands before rows rest₀) pm (lists_in rows) c (found-taken h))
-        (calls-refused Refusal.SlotTaken before rows rest₀ (record { slots_long = long; rows_long = sized.rows_long }))
+    pub on-taken : (why : Refusal) → Err why ≡ key_place c.ref_pic rest.cur_num_ref_pics keys
+        → Calls (Answer.Refused why) before rows rest₀ before rows rest₀ (place (stands before rows rest₀) (stands keys rows rest) (lists_in rows) c)
+    on-taken why h =
+        let f = found-taken why h in
+        rw f.1
+        (calls_by (place-taken (stands before rows rest₀) pm (lists_in rows) c f.0)
+        (calls-refused Refusal.SlotTaken before rows rest₀ (record { slots_long = long; rows_long = sized.rows_long })))
 
-    pub on-placed : (r : Called) (keys' rows' : List ℕ) → found < slots → Placed r keys rows rest c found keys' rows'
-        → Calls r before rows rest₀ keys' rows' (place (stands before rows rest₀) (stands keys rows rest) (lists_in rows) c)
-    on-placed r keys' rows' h d =
-        let f = found-free h in
+    pub on-placed : (shown : Shown) (keys' rows' : List ℕ) (rest' : Rest) (found : ℕ) → Ok found ≡ key_place c.ref_pic rest.cur_num_ref_pics keys
+        → Placed shown keys rows rest c found keys' rows' rest'
+        → Calls (Answer.Picture shown.buffer shown.poc) before rows rest₀ keys' rows' rest'
+        (place (stands before rows rest₀) (stands keys rows rest) (lists_in rows) c)
+    on-placed shown keys' rows' rest' found h d =
+        let f = found-free found h in
         calls_by (place-stored (stands before rows rest₀) pm (lists_in rows) c f.0 ∙ ap (λ (i : ℕ). stored i pm (lists_in rows) c) f.1)
-        (calls-picture d.shows d.rows_placed (record { answers = d.shows; stands_for = d.stands_placed; lists_stay = d.lists_placed; still_sized = d.sized_placed }))
+        (rw d.shows (calls-picture d.rows_placed (record {
+          answers = refl; stands_for = d.stands_placed; lists_stay = d.lists_placed; still_sized = d.sized_placed })))
 
 -- ---- the picture in its slot
 
@@ -167,22 +182,16 @@ module _ (keys rows : List ℕ) (rest : Rest) (c : PutCall) (pos : ℕ) (sized :
   put-key = key_made c.poc c.temporal_id b c.need_for_output c.ref_pic
 
   abbrev placed-rest : Rest
-  placed-rest = record {
+  placed-rest = record rest {
     lease = 0;
-    max_pb_size = rest.max_pb_size;
-    max_num_ref_pics = rest.max_num_ref_pics;
     cur_pb_size = rest.cur_pb_size + 1;
     cur_num_ref_pics = rest.cur_num_ref_pics + bool_byte c.ref_pic;
-    num_refp_0 = rest.num_refp_0;
-    num_refp_1 = rest.num_refp_1;
-    poc_next_output = rest.poc_next_output;
-    poc_increase = rest.poc_increase;
   }
 
   few : n ≤ length (row_at rows number_row)
   few = let f = room.forward_few in omega (arith, row-length rows number_row sized.rows_long (omega arith))
 
-  pub pic-placed : Placed (record { answer = Answer.Picture b c.poc; rest = placed-rest }) keys rows rest c pos (set keys pos put-key) after
+  pub pic-placed : Placed (shown_as b c.poc) keys rows rest c pos (set keys pos put-key) after placed-rest
   pic-placed =
       let e = room.forward_few in
       let h = room.buffer_below in
@@ -217,30 +226,30 @@ module _ (keys rows : List ℕ) (rest : Rest) (c : PutCall) (pos : ℕ) (sized :
 -- ---- each return of a put
 
 module _ (keys rows : List ℕ) (rest : Rest) (c : PutCall) (sized : Sized keys rows) where
-  pub on-nothing : (r : Called) (keys' : List ℕ) → c.has_pic ≡ false
-      → Comes r keys' rows (lists_in rows) (only_marked c (stands keys rows rest))
-      → Calls r keys rows rest keys' rows (put_whole (stands keys rows rest) (lists_in rows) c)
-  on-nothing r keys' p d = calls_by (put-none (stands keys rows rest) (remarked c (stands keys rows rest)) (lists_in rows) c p) (calls-done d.answers d)
+  pub on-nothing : (keys' : List ℕ) (rest' : Rest) → c.has_pic ≡ false
+      → Comes Answer.Done keys' rows rest' (lists_in rows) (only_marked c (stands keys rows rest))
+      → Calls Answer.Done keys rows rest keys' rows rest' (put_whole (stands keys rows rest) (lists_in rows) c)
+  on-nothing keys' rest' p d = calls_by (put-none (stands keys rows rest) (remarked c (stands keys rows rest)) (lists_in rows) c p) (calls-done d)
 
   module _ (p : c.has_pic ≡ true) where
     pub on-high : 2147483647 < c.poc
-        → Calls (turned_down Refusal.NumberTooHigh rest) keys rows rest keys rows (put_whole (stands keys rows rest) (lists_in rows) c)
+        → Calls (Answer.Refused Refusal.NumberTooHigh) keys rows rest keys rows rest (put_whole (stands keys rows rest) (lists_in rows) c)
     on-high t =
         calls_by (put-high (stands keys rows rest) (remarked c (stands keys rows rest)) (lists_in rows) c p t)
         (calls-refused Refusal.NumberTooHigh keys rows rest sized)
 
     module _ (t : c.poc ≤ 2147483647) where
       pub on-unleased : key_present rest.lease ≡ false
-          → Calls (turned_down Refusal.NoLease rest) keys rows rest keys rows (put_whole (stands keys rows rest) (lists_in rows) c)
+          → Calls (Answer.Refused Refusal.NoLease) keys rows rest keys rows rest (put_whole (stands keys rows rest) (lists_in rows) c)
       on-unleased l =
           calls_by (put-unleased (stands keys rows rest) (remarked c (stands keys rows rest)) (lists_in rows) c p t l)
           (calls-refused Refusal.NoLease keys rows rest sized)
 
       -- The state q that marking made of it is placed.
-      pub on-marked : (r : Called) (q : EvcPm) (keys' rows' : List ℕ) → key_present rest.lease ≡ true → q ≡ remarked c (stands keys rows rest)
-          → Calls r keys rows rest keys' rows' (place (stands keys rows rest) q (lists_in rows) c)
-          → Calls r keys rows rest keys' rows' (put_whole (stands keys rows rest) (lists_in rows) c)
-      on-marked r q keys' rows' l e d =
+      pub on-marked : (answer : Answer) (q : EvcPm) (keys' rows' : List ℕ) (rest' : Rest) → key_present rest.lease ≡ true → q ≡ remarked c (stands keys rows rest)
+          → Calls answer keys rows rest keys' rows' rest' (place (stands keys rows rest) q (lists_in rows) c)
+          → Calls answer keys rows rest keys' rows' rest' (put_whole (stands keys rows rest) (lists_in rows) c)
+      on-marked answer q keys' rows' rest' l e d =
           calls_by
           (put-places (stands keys rows rest) (remarked c (stands keys rows rest)) (lists_in rows) c p t l
           ∙ ap (λ (x : EvcPm). place (stands keys rows rest) x (lists_in rows) c) (sym e))

@@ -4,3 +4,4 @@ pub mod Out
 pub mod Init
 pub mod OnKeys
 pub mod Claims
+pub mod Results

@@ -2,28 +2,24 @@
 ghost use Rattle.std.specs.Prelude.{List, ℕ};
 ghost use Rattle.keys.specs.Keys.{stands, Sized};
 ghost use Rattle.picman.specs.Init.{init_whole};
+ghost use Rattle.picman.specs.Results.{init_answer};
 ghost use Rattle.picman.specs.OnKeys.{Calls};
 
-use crate::refuse;
-use def::{Answer, MAX_PB, MAX_REFS, Refusal};
-use keys::{Called, Rest};
+use def::{MAX_PB, MAX_REFS, Refusal};
+use keys::Rest;
 
 // Neither keys nor rows are looked at: whatever they hold, they stay.
-pub fn init(rest: Rest, max_pb_size: u8, max_num_ref_pics: u8) -> Called
+pub fn init(rest: &mut Rest, max_pb_size: u8, max_num_ref_pics: u8) -> Result<(), Refusal>
     ensures { (keys rows : List ℕ) → Sized keys rows
-        → let before = stands keys rows rest in
-        Calls result keys rows rest keys rows (init_whole before max_pb_size max_num_ref_pics) }
+        → let wanted = init_whole (stands keys rows rest.old) max_pb_size max_num_ref_pics in
+        Calls (init_answer result) keys rows rest.old keys rows rest.new wanted }
 {
     if (MAX_PB < max_pb_size) | (MAX_REFS < max_num_ref_pics) {
-        return refuse(rest, Refusal::SizeTooBig);
+        return Err(Refusal::SizeTooBig);
     }
-    let mut after = rest;
-    after.max_pb_size = max_pb_size;
-    after.max_num_ref_pics = max_num_ref_pics;
-    after.poc_increase = 1;
-    after.lease = 0;
-    Called {
-        answer: Answer::Done,
-        rest: after,
-    }
+    rest.max_pb_size = max_pb_size;
+    rest.max_num_ref_pics = max_num_ref_pics;
+    rest.poc_increase = 1;
+    rest.lease = 0;
+    Ok(())
 }

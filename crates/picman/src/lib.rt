@@ -2,20 +2,20 @@
 // in specs/ makes of what they stood for before. They rely on a whole state: whoever calls them has tested it, or knows it from the call before.
 #![tactic(auto)]
 
-ghost use Rattle.std.specs.Prelude.{◌≡◌};
-ghost use Rattle.picman.specs.OnKeys.{turned_down};
-
-use def::{Answer, Refusal};
-use keys::{Called, Rest};
-
+pub mod answer;
+pub mod get;
 pub mod init;
+pub mod out;
+pub mod place;
+pub mod put;
 
-// A call turned down leaves the rest as it was.
-pub fn refuse(rest: Rest, why: Refusal) -> Called
-    ensures { result ≡ turned_down why rest }
-{
-    Called {
-        answer: Answer::Refused(why),
-        rest,
-    }
+// A picture as an answer shows it.
+#[derive(Clone, Copy)]
+pub struct Shown {
+    pub buffer: u8,
+    pub poc: u32,
 }
+
+// No picture is wanted for output.
+#[derive(Clone, Copy)]
+pub struct NoMoreOutput;

@@ -20,10 +20,7 @@ fn wide(n: u32) -> u64
 fn count_of(n: u32) -> u8
     ensures { result ≡ min n highest_count }
 {
-    if 255 < n {
-        return 255;
-    }
-    n as u8
+    n.min(255) as u8
 }
 
 pub fn rest_of(registers: &[u32]) -> Rest
@@ -84,10 +81,5 @@ pub fn store(registers: &mut [u32], rest: Rest, poc: EvcPoc)
     ensures written { registers.new ≡ registers_of rest poc }
     ensures kept { (rest_of registers.new ≡ rest) × (poc_of registers.new ≡ poc) }
 {
-    let new = words(rest, poc);
-    let mut i: usize = 0;
-    while i < REGISTERS {
-        registers[i] = new[i];
-        i = i + 1;
-    }
+    registers.copy_from_slice(&words(rest, poc));
 }

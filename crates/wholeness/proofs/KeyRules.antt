@@ -18,10 +18,10 @@ use Rattle.keys.specs.declared.Rest.{Rest}
 use Rattle.keys.specs.Keys.{key_present, key_marked, key_ref, key_out, key_buffer, key_layer, key_number, slot_at, stands}
 use Rattle.keys.proofs.KeyLaws.{buffers-same}
 use Rattle.whole.proofs.Laws.{six}
-use Rattle.tallying.specs.declared.Tally.{Tally}
+use Rattle.wholeness.specs.declared.tally.Tally.{Tally}
 use Rattle.whole.specs.Whole.{whole, places, held_buffers, zero_if_empty, poc_fits}
-use Rattle.tallying.specs.Tallies.{no_tally, tallied, tally_all}
-use Rattle.tallying.proofs.TallyLaws.{Gathered, gathered-all, held_by, zero_if_none, low_if_picture, below27, unseen}
+use Rattle.wholeness.specs.Tallies.{no_tally, tallied, tally_all}
+use Rattle.wholeness.proofs.TallyLaws.{Gathered, gathered-all, held_by, zero_if_none, low_if_picture, below27, unseen}
 
 -- ---- one key
 

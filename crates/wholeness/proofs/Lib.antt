@@ -1,1 +1,2 @@
 pub mod KeyRules
+pub mod TallyLaws

@@ -7,9 +7,11 @@ ghost use Rattle.def.specs.State.{slots};
 ghost use Rattle.keys.specs.Keys.{stands};
 ghost use Rattle.whole.specs.Whole.{whole};
 
+pub mod tally;
+
+use crate::tally::{tally_all, tally_key};
 use def::{MAX_PB, MAX_REFS};
 use keys::{Rest, SLOTS};
-use tallying::{tally_all, tally_key};
 
 // One more than the highest key of a picture whose number is not too high, and than the highest set of buffer numbers, as bits.
 const KEYS_END: u64 = 0x8000_0000_0000;

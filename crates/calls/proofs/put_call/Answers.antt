@@ -1,7 +1,7 @@
--- `calls::put_call` meets its contract. Assumes nothing.
 use Rattle.machine.proofs.Running.{state-makes, put-on-whole}
 use Rattle.calls.proofs.put_call.Goals as goal
 
 pub returns : goal.returns
 returns c =
-    state-makes c.args.keys.now c.args.rows.now c.args.s.now 3 c.reply_of.ensures (put-on-whole _ _ c.args.call c.requires.whole_state) c.put-called.ensures
+    let a = c.args in
+    state-makes a.keys.now a.rows.now a.s.now 3 (rw (← c.put_answer.ensures) c.reply_of.ensures) (put-on-whole _ _ a.call c.requires.whole_state) c.put-placed.ensures

@@ -6,9 +6,9 @@ use borrow.Author.Tests.{not-true, not-false}
 use Rattle.def.specs.declared.{EvcPm.EvcPm, EvcRefP.EvcRefP}
 use Rattle.keys.specs.Keys.{lists_in}
 use Rattle.entries.specs.Entries.{ListsTaken}
-use Rattle.opening.specs.declared.{Opened.Opened}
-use Rattle.opening.specs.Opening.{Opens}
-use Rattle.opening.proofs.Opening.{opened-whole}
+use Rattle.entry.specs.declared.opening.{Opened.Opened}
+use Rattle.entry.specs.Opening.{Opens}
+use Rattle.entry.proofs.Opening.{opened-whole}
 use Rattle.listing.proofs.Listed.{lists-turned-away, lists-still-whole, lists-come-to}
 use Rattle.listing.proofs.evc_picman_refp_init.Goals as goal
 

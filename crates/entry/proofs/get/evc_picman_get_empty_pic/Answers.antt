@@ -1,9 +1,9 @@
--- `entry::get::evc_picman_get_empty_pic` meets its contract: a state that is not whole is handed back, and else the core's call is
+-- a state that is not whole is handed back, and else the core's call is
 -- the definition's. Assumes nothing.
 use mathlib.Core.Path.{◌∙◌}
 use borrow.Author.Tests.{not-true, not-false}
-use Rattle.opening.proofs.Opening.{opened-whole}
-use Rattle.opening.proofs.Calling.{turned-away, still-whole, comes_to}
+use Rattle.entry.proofs.Opening.{opened-whole}
+use Rattle.entry.proofs.Calling.{turned-away, still-whole, comes_to}
 use Rattle.entry.proofs.Defining.{get-defined}
 use Rattle.entry.proofs.get.evc_picman_get_empty_pic.Goals as goal
 

@@ -1,8 +1,8 @@
--- `entry::out::evc_picman_out_pic` meets its contract: a state that is not whole is handed back, and else the core's call is the definition's. Assumes nothing.
+-- a state that is not whole is handed back, and else the core's call is the definition's. Assumes nothing.
 use mathlib.Core.Path.{◌∙◌}
 use borrow.Author.Tests.{not-true, not-false}
-use Rattle.opening.proofs.Opening.{opened-whole}
-use Rattle.opening.proofs.Calling.{turned-away, still-whole, comes_to}
+use Rattle.entry.proofs.Opening.{opened-whole}
+use Rattle.entry.proofs.Calling.{turned-away, still-whole, comes_to}
 use Rattle.entry.proofs.Defining.{out-defined}
 use Rattle.picman.proofs.OutOnKeys.{numbers_fit}
 use Rattle.entry.proofs.out.evc_picman_out_pic.Goals as goal

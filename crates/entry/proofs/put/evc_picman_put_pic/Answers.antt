@@ -1,4 +1,4 @@
--- `entry::put::evc_picman_put_pic` meets its contract: a state that is not whole is handed back, and else the core's call is the definition's. Assumes nothing.
+-- a state that is not whole is handed back, and else the core's call is the definition's. Assumes nothing.
 use mathlib.Core.Path.{◌∙◌}
 use mathlib.Core.List.{List}
 use Prim.Native.Nat.{ℕ}
@@ -6,10 +6,10 @@ use borrow.Author.Tests.{not-true, not-false}
 use Rattle.def.specs.declared.{EvcPm.EvcPm, EvcRefP.EvcRefP}
 use Rattle.keys.specs.Keys.{lists_in}
 use Rattle.entries.specs.Entries.{ListsTaken}
-use Rattle.opening.specs.declared.{Opened.Opened}
-use Rattle.opening.specs.Opening.{Opens}
-use Rattle.opening.proofs.Opening.{opened-whole}
-use Rattle.opening.proofs.Calling.{turned-away, still-whole, comes_to}
+use Rattle.entry.specs.declared.opening.{Opened.Opened}
+use Rattle.entry.specs.Opening.{Opens}
+use Rattle.entry.proofs.Opening.{opened-whole}
+use Rattle.entry.proofs.Calling.{turned-away, still-whole, comes_to}
 use Rattle.entry.proofs.Defining.{put-defined, put-on-lists}
 use Rattle.entry.proofs.put.evc_picman_put_pic.Goals as goal
 

@@ -1,7 +1,0 @@
--- `apart::take_apart` meets its contract: the slots are taken, and then the lease. Assumes nothing.
-use Rattle.apart.proofs.Taken.{apart-done}
-use Rattle.apart.proofs.take_apart.Goals as goal
-
-pub returns : goal.returns
-returns c =
-    apart-done c.args.pm c.args.rows.now _ _ _ _ c.requires.rows_long c.take_slots.ensures c.take_slot-lease.ensures

@@ -1,0 +1,4 @@
+pub mod KeyedLaws
+pub mod ApartLaws
+pub mod Taken
+mod Fitting

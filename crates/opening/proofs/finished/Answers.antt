@@ -1,6 +1,0 @@
--- `opening::finished` meets its contract. Assumes nothing.
-use mathlib.Core.Path.{refl}
-use Rattle.opening.proofs.finished.Goals as goal
-
-pub returns : goal.returns
-returns c = rw c.put_together-pm.ensures refl

@@ -1,0 +1,4 @@
+pub mod Finding
+pub mod Highest
+mod Slides
+mod Holding

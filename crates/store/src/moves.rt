@@ -1,0 +1,24 @@
+// Moves within the keys of the slots.
+ghost use Rattle.std.specs.Prelude.{◌≡◌, ◌<◌, ◌-◌, length, get_or};
+ghost use Rattle.seq.specs.Lists.{move_to, remove_at};
+
+use std::mem;
+
+// The key at `pos` goes to the last slot, and those above slide down one (the Rust's picman_move_pic).
+pub fn move_last(keys: &mut [u64], pos: usize)
+    requires { pos < length keys.old }
+    ensures { keys.new ≡ move_to 0 pos (length keys.old - 1) keys.old }
+{
+    keys[pos..].rotate_left(1);
+}
+
+// The key at `pos` is taken out: those above slide down one, and the last slot empties (picman_remove_pic_from_pb).
+pub fn remove_key(keys: &mut [u64], pos: usize) -> u64
+    requires { pos < length keys.old }
+    ensures taken { result ≡ get_or keys.old pos 0 }
+    ensures left { keys.new ≡ remove_at 0 pos keys.old }
+{
+    let key = mem::replace(&mut keys[pos], 0);
+    move_last(keys, pos);
+    key
+}

@@ -1,5 +1,0 @@
--- `together::slot_with` meets its contract: by what its parts ensure. Assumes nothing.
-use Rattle.together.proofs.slot_with.Goals as goal
-
-pub returns : goal.returns
-returns c = rw (c.buffer_byte.ensures, c.layer_of.ensures, c.number_of.ensures)
