@@ -16,8 +16,7 @@ pub fn evc_picman_why(pm: EvcPm, call: RefpCall, slot: u8) -> WhyAnswer
 {
     let mut keys = [0u64; SLOTS];
     let mut rows = [0u32; ROWS];
-    let state = open_state(pm, &mut keys, &mut rows);
-    if !state.is_whole {
+    if open_state(pm, &mut keys, &mut rows).is_none() {
         return WhyAnswer::Refused(Refusal::StateNotWhole);
     }
     let mut pic_ref = [0u64; SLOTS];

@@ -5,10 +5,11 @@
 ghost use Rattle.std.specs.Prelude.{◌≡◌};
 ghost use Rattle.refp.specs.Lists.{lists};
 
+use conversion::together::put_together;
 use def::{Answer, EvcPm, EvcRefP, REFP_PLACES, RefpCall, RefpResult, Refusal};
 use entries::{put_lists, take_lists};
 use keys::{PLACES, ROWS, SLOTS};
-use entry::opening::{finished, open_state};
+use entry::opening::open_state;
 
 pub fn evc_picman_refp_init(pm: EvcPm, refp: [EvcRefP; REFP_PLACES], call: RefpCall) -> RefpResult
     ensures { result ≡ lists pm refp call }
@@ -16,24 +17,19 @@ pub fn evc_picman_refp_init(pm: EvcPm, refp: [EvcRefP; REFP_PLACES], call: RefpC
     let mut keys = [0u64; SLOTS];
     let mut rows = [0u32; ROWS];
     take_lists(refp, &mut rows);
-    let state = open_state(pm, &mut keys, &mut rows);
-    if !state.is_whole {
+    let Some(rest) = open_state(pm, &mut keys, &mut rows) else {
         return RefpResult {
             answer: Answer::Refused(Refusal::StateNotWhole),
             pm,
             refp,
         };
-    }
+    };
     let mut pic_ref = [0u64; SLOTS];
     let mut list = [0u64; PLACES];
-    let called = filling::refp_init(&keys, &mut rows, &mut pic_ref, &mut list, state.rest, call);
-    let done = finished(&keys, &rows, called);
-    let answer = done.answer;
-    let after = done.pm;
-    let filled = put_lists(&rows);
+    let called = filling::refp_init(&keys, &mut rows, &mut pic_ref, &mut list, rest, call);
     RefpResult {
-        answer,
-        pm: after,
-        refp: filled,
+        answer: called.answer,
+        pm: put_together(&keys, &rows, called.rest),
+        refp: put_lists(&rows),
     }
 }
