@@ -11,7 +11,7 @@ use line::{Call, HIGHEST_FLAGS};
 pub fn init_line(max_pb_size: u8, max_num_ref_pics: u8) -> Option<Call>
     ensures { result ≡ Some (Init max_pb_size max_num_ref_pics) }
 {
-    Line::Some(Call::Init {
+    Some(Call::Init {
         max_pb_size,
         max_num_ref_pics,
     })
@@ -20,7 +20,7 @@ pub fn init_line(max_pb_size: u8, max_num_ref_pics: u8) -> Option<Call>
 pub fn get_line() -> Option<Call>
     ensures { result ≡ Some GetEmptyPic }
 {
-    Line::Some(Call::GetEmptyPic)
+    Some(Call::GetEmptyPic)
 }
 
 // Flags that no call line may have make a bad line.
@@ -28,9 +28,9 @@ pub fn put_line(flags: u8, poc: u32, temporal_id: u8, ref_pic_gap_length: u32) -
     ensures { result ≡ put_line flags poc temporal_id ref_pic_gap_length }
 {
     if HIGHEST_FLAGS < flags {
-        return Line::None;
+        return None;
     }
-    Line::Some(Call::PutPic {
+    Some(Call::PutPic {
         flags,
         poc,
         temporal_id,
@@ -41,7 +41,7 @@ pub fn put_line(flags: u8, poc: u32, temporal_id: u8, ref_pic_gap_length: u32) -
 pub fn out_line() -> Option<Call>
     ensures { result ≡ Some OutPic }
 {
-    Line::Some(Call::OutPic)
+    Some(Call::OutPic)
 }
 
 pub fn lists_line(
@@ -53,7 +53,7 @@ pub fn lists_line(
 ) -> Option<Call>
     ensures { result ≡ Some (RefpInit slice_type poc layer_id last_intra max_num_ref_pics) }
 {
-    Line::Some(Call::RefpInit {
+    Some(Call::RefpInit {
         slice_type,
         poc,
         layer_id,
