@@ -1,5 +1,5 @@
 -- What is given where something does not fit and where all does. Assumes nothing.
-use Rattle.std.proofs.Common.{Result, Ok, Err}
+use Rattle.std.proofs.Common.{Err}
 use Prim.Native.Nat.{ℕ}
 use mathlib.Core.Path.{◌≡◌, sym}
 use mathlib.Core.Bool.{Bool, true, false, ◌&&◌}
@@ -15,7 +15,6 @@ use Rattle.keys.specs.Keys.{rows_length, slot_at, stands}
 use Rattle.registers.specs.Registers.{registers_length}
 use Rattle.whole.specs.Whole.{whole}
 use Rattle.line.specs.declared.{Line.Line}
-use Rattle.reasons.specs.declared.Reason.{Reason}
 use Rattle.reasons.specs.Reasons.{why_whole, why}
 use Rattle.machine.specs.Lent.{slices, sized}
 use Rattle.questions.specs.declared.Question.{Question}

@@ -7,7 +7,7 @@ ghost use Rattle.std.specs.Prelude.{◌≡◌, length};
 ghost use Rattle.line.specs.Calls.{call_from};
 ghost use Rattle.questions.specs.Asked.{question_of, question_in, reason_number, place_told, reason_length, reason_bytes, why_left, shown_why};
 
-use def::{DONE, RefpCall, refusal_number};
+use def::{DONE, RefpCall, Refusal, refusal_number};
 use line::{Call, Line};
 use machine::fields::refp_call_of;
 use parsing::read_call;
