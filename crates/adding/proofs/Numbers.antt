@@ -23,7 +23,6 @@ any-same p [] = refl
 any-same p (x ∷ xs) = ap (λ (b : Bool). p x || b) (any-same p xs)
 
 module _ (rows : List ℕ) (long : length rows ≡ rows_length) (from n : ℕ) (fits : from + n ≤ list_places + list_places) where
-
   numbers-long : length (take n (drop (row_length * number_row + from) rows)) ≡ n
   numbers-long = length-take-le n (drop (row_length * number_row + from) rows) (let d = length-drop (row_length * number_row + from) rows in omega arith)
 

@@ -60,7 +60,12 @@ pub fn choose(ordered: &[u64], lists: &mut Lists, call: RefpCall) -> Result<(), 
         return Err(Refusal::NoReferences);
     }
     let rule = rule_of(call);
-    list_of(ordered, &mut lists.forward, &rule, forward_walk(call.slice_type));
+    list_of(
+        ordered,
+        &mut lists.forward,
+        &rule,
+        forward_walk(call.slice_type),
+    );
     if lists.forward.is_empty() {
         return Err(Refusal::ForwardListEmpty);
     }

@@ -11,8 +11,8 @@ ghost use Rattle.reasons.specs.Reasons.{reason_for, of_slot};
 ghost use Rattle.reasons.specs.declared.Reason.{Reason};
 
 use def::{RefpCall, Refusal};
-use keys::key::{is_marked, is_present};
 use keys::SLOTS;
+use keys::key::{is_marked, is_present};
 use reaching::reason_of;
 use reasons::Reason;
 

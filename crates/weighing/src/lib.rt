@@ -12,7 +12,14 @@ use passes::{Direction, PassRule};
 use reasons::Reason;
 
 // The reason for a marked picture, where the list has `cnt` entries at its turn, and by the bound there.
-pub fn judge(rule: &PassRule, both: bool, way: Direction, cnt: usize, bound: u64, key: u64) -> Reason
+pub fn judge(
+    rule: &PassRule,
+    both: bool,
+    way: Direction,
+    cnt: usize,
+    bound: u64,
+    key: u64,
+) -> Reason
     requires { cnt ≤ list_places + list_places }
     ensures { result ≡ judged (ask_in rule.now) both true way cnt bound (key_in key) }
 {
