@@ -6,8 +6,8 @@ ghost use Rattle.std.specs.Prelude.{◌≡◌};
 ghost use Rattle.reasons.specs.Reasons.{why};
 
 use def::{EvcPm, RefpCall, Refusal};
-use judging::why_on;
 use entry::opening::open_state;
+use judging::why_on;
 use keys::{ROWS, SLOTS};
 use reasons::Reason;
 
