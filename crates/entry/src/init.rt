@@ -8,11 +8,7 @@ use conversion::together::put_together;
 use def::{EvcPm, Refusal};
 use keys::{ROWS, SLOTS};
 
-pub fn evc_picman_init(
-    pm: &mut EvcPm,
-    max_pb_size: u8,
-    max_num_ref_pics: u8,
-) -> Result<(), Refusal>
+pub fn evc_picman_init(pm: &mut EvcPm, max_pb_size: u8, max_num_ref_pics: u8) -> Result<(), Refusal>
     ensures { Gives (init pm.old max_pb_size max_num_ref_pics) (init_answer result) pm.new }
 {
     let mut keys = [0; SLOTS];

@@ -6,9 +6,9 @@ ghost use Rattle.std.specs.Prelude.{◌≡◌};
 ghost use Rattle.reasons.specs.Reasons.{why};
 
 use def::{EvcPm, RefpCall, Refusal};
+use entry::opening::open_state;
 use judging::why_on;
 use keys::{PLACES, ROWS, SLOTS};
-use entry::opening::open_state;
 use reasons::WhyAnswer;
 
 pub fn evc_picman_why(pm: EvcPm, call: RefpCall, slot: u8) -> WhyAnswer

@@ -8,8 +8,8 @@ ghost use Rattle.refp.specs.Lists.{lists};
 use conversion::together::put_together;
 use def::{Answer, EvcPm, EvcRefP, REFP_PLACES, RefpCall, RefpResult, Refusal};
 use entries::{put_lists, take_lists};
-use keys::{PLACES, ROWS, SLOTS};
 use entry::opening::open_state;
+use keys::{PLACES, ROWS, SLOTS};
 
 pub fn evc_picman_refp_init(pm: EvcPm, refp: [EvcRefP; REFP_PLACES], call: RefpCall) -> RefpResult
     ensures { result ≡ lists pm refp call }
