@@ -6,7 +6,7 @@ use Rattle.lent_lines.proofs.read_record.Goals as goal
 
 pub returns-then-out-ne-RECORD_LENGTH : goal.returns-then-out-ne-RECORD_LENGTH
 unfolding read_out
-returns-then-out-ne-RECORD_LENGTH c = rw (c.refusal_number.ensures, ne_eqb _ record_length c.if-out-ne-RECORD_LENGTH.true)
+returns-then-out-ne-RECORD_LENGTH c = rw (c.from.ensures, ne_eqb _ record_length c.if-out-ne-RECORD_LENGTH.true)
 
 pub returns : goal.returns
 unfolding read_out

@@ -1,11 +1,5 @@
 -- `listing::evc_picman_refp_init` meets its contract: a state that is not whole is handed back, and else the core's call is the definition's. Assumes nothing.
-use mathlib.Core.Path.{refl, ◌∙◌}
-use mathlib.Core.List.{List}
-use Prim.Native.Nat.{ℕ}
-use Rattle.def.specs.declared.{EvcPm.EvcPm, EvcRefP.EvcRefP}
-use Rattle.keys.specs.Keys.{lists_in}
-use Rattle.entries.specs.Entries.{ListsTaken}
-use Rattle.entry.specs.Opening.{Opens}
+use mathlib.Core.Path.{refl}
 use Rattle.entry.proofs.Opened.{opened-whole}
 use Rattle.entry.proofs.Defining.{opened}
 use Rattle.listing.proofs.Listed.{lists-turned-away, lists-still-whole, lists-come-to}
