@@ -19,8 +19,7 @@ use Rattle.line.specs.declared.Call.TheVariants.{Init, GetEmptyPic, PutPic, OutP
 use Rattle.line.specs.Calls.{call_bytes, call_kind}
 use Rattle.line.specs.Claims.{CallFits}
 use Rattle.line.proofs.Bodies.{calls-lawful}
-use Rattle.writer.specs.declared.Written.{Written}
-use Rattle.writer.specs.Writing.{WrittenOut, written_out, is_some, is_call_body, written}
+use Rattle.writer.specs.Writing.{WrittenOut, written_out, is_call_body, written}
 use Rattle.phrases.specs.Phrases.{Added}
 use Rattle.phrases.proofs.Adding.{pasted}
 

@@ -1,9 +1,6 @@
 // The running form of the picture manager: a slot is one number, a key, and the list numbers of a picture stay in a row under its buffer
 // number, as the original moves pointers and not pictures. The list entries are rows of the same array. `stands` in specs/Keys.antt says
 // which state keys, rows and the rest stand for; every call of the core is stated through it.
-//
-// The slots stay packed because the C interface lends them so: `include/picman.h` fixes their layout, and slots of `Option` that each call unpacks
-// and packs again take 1.7 times a call's time. Keys and rows are slices, as the interface lends them, whose lengths are tested once.
 #![tactic(auto)]
 
 pub mod key;

@@ -1,6 +1,6 @@
 -- What is given where something does not fit and where all does. Assumes nothing.
 use Rattle.std.specs.Prelude.{Option}
-use Rattle.std.proofs.Common.{Result, Ok, Err}
+use Rattle.std.proofs.Common.{Err}
 use Prim.Native.Nat.{ℕ}
 use mathlib.Core.Path.{◌≡◌, sym}
 use mathlib.Core.Bool.{Bool, true, false}
@@ -9,12 +9,10 @@ use lib.ListN.{length}
 use borrow.Author.Tests.{eq-eqb, ne_eqb}
 use Rattle.def.specs.declared.{EvcPm.EvcPm, RefpCall.RefpCall, Refusal.Refusal}
 use Rattle.keys.specs.declared.{Rest.Rest}
-use Rattle.keys.specs.Keys.{slot_at, stands, rows_length}
+use Rattle.keys.specs.Keys.{slot_at, stands}
 use Rattle.keys.specs.declared.Rest.{Rest}
-use Rattle.registers.specs.Registers.{registers_length}
 use Rattle.whole.specs.Whole.{whole}
 use Rattle.line.specs.declared.Call.{Call}
-use Rattle.line.specs.declared.{Line.Line}
 use Rattle.reasons.specs.Reasons.{why_whole, why}
 use Rattle.std.specs.Prelude.{Option}
 use Rattle.questions.specs.Asked.{question_in, reason_length, why_asked, bad_why, if_fits}

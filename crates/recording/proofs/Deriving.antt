@@ -8,8 +8,9 @@ use Rattle.keys.specs.Keys.{Sized}
 use Rattle.poc.specs.PictureNumber.{Derivation, derive}
 use Rattle.line.specs.declared.{Call.Call, Reply.Reply}
 use Rattle.registers.specs.Registers.{poc_of}
+use Rattle.machine.specs.declared.Scalars.{Scalars}
 use Rattle.machine.specs.Step.{derived_reply, step}
-use Rattle.machine.specs.Running.{machine_in, Makes, derived_of}
+use Rattle.machine.specs.Running.{machine_in, Makes}
 use Rattle.machine.specs.Claims.{TurnedDown}
 use Rattle.machine.proofs.Running.{record-makes}
 use Rattle.running.specs.Slices.{slices, scalars_at, CallLeaves}
@@ -24,13 +25,17 @@ module _ (L t : ℕ) (registers : List ℕ) {poc : EvcPoc} {d : Derivation} {rep
   is-derived : d ≡ derive L t (poc_of registers)
   is-derived = derived ∙ ap (derive L t) read
 
-  is-reply : reply ≡ (derived_of (scalars_at registers) L t).reply
+  is-reply : reply ≡ derived_reply 6 (derive L t (poc_of registers)).answer
   is-reply = replied ∙ rw is-derived refl
 
+  abbrev after-it : Scalars
+  after-it = record { rest = (scalars_at registers).rest; poc = (derive L t (poc_of registers)).poc }
+
   makes : (keys rows : List ℕ) → Sized keys rows
-      → Makes (derived_of (scalars_at registers) L t) (scalars_at registers) keys rows keys rows (step (machine_in keys rows (scalars_at registers)) call)
+      → Makes (derived_reply 6 (derive L t (poc_of registers)).answer) after-it (scalars_at registers) keys rows keys rows
+      (step (machine_in keys rows (scalars_at registers)) call)
   unfolding step
-  makes keys rows sized = record-makes keys rows (scalars_at registers) L t sized refl
+  makes keys rows sized = record-makes keys rows (scalars_at registers) L t sized refl refl
 
   pub leaves-refused : TurnedDown reply → (keys rows : List ℕ) → Sized keys rows
       → CallLeaves reply call (slices keys rows registers) (slices keys rows registers)

@@ -20,7 +20,6 @@ use registers::poc_of;
 use sizing::is_sized;
 
 // The record's registers; what the others are read as stays.
-#[tactic(auto, using(def::proofs::WordLaws::cast_unsigned_is))]
 fn write_record(registers: &mut [u32], poc: EvcPoc)
     requires { length registers.old ≡ registers_length }
     ensures { Recorded registers.old registers.new poc }

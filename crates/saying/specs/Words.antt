@@ -1,7 +1,7 @@
 -- An answer line in words: `put: buffer 3, number 12`, `out: not yet`, `lists: turned down, 9, no references`.
 -- Assumes nothing.
 use Rattle.std.specs.Prelude.{ℕ, cond, not, List, [], ◌∷◌, ◌++◌, ltb, eqb, get_or, Option, Some, None}
-use Rattle.phrases.specs.Phrases.{chars, decimal, decimal_from}
+use Rattle.phrases.specs.Phrases.{chars, decimal}
 use Rattle.hex_digits.specs.Hex.{bytes_of, sum8}
 use Rattle.hex_digits.specs.Frame.{body_of, from_line}
 use Rattle.line.specs.declared.Reply.{Reply}

@@ -109,7 +109,7 @@ pub fn say_line(line: &[u8], number: u64) -> Sentence
     ensures { result.bytes ≡ said_line number line.now }
 {
     match read_answer(line) {
-        AnswerSome(reply) => say_answer(reply),
-        AnswerNone => bad_line_words(number),
+        Some(reply) => say_answer(reply),
+        None => bad_line_words(number),
     }
 }

@@ -4,13 +4,13 @@ use Rattle.std.proofs.Common.{rules}
 use Rattle.asking.proofs.LineWritten.{line-given, line-not-refused}
 use Rattle.asking.proofs.call_line.Goals as goal
 
-pub returns-in-Line : goal.returns-in-Line
-returns-in-Line c =
+pub returns-in-Ok : goal.returns-in-Ok
+returns-in-Ok c =
     let wrote = c.write_call-written in
     rw (c.truncate.ensures.items, c.from_array_in-line.ensures.items)
-    (line-given c.args.call _ c.requires (search rules) wrote.result _ wrote.ensures _ c.in-Line.is)
+    (line-given c.args.call _ c.requires (search rules) wrote.result _ wrote.ensures _ c.in-Ok.is)
 
-pub returns-in-Refused : goal.returns-in-Refused
-returns-in-Refused c =
+pub returns-in-Err : goal.returns-in-Err
+returns-in-Err c =
     let wrote = c.write_call-written in
-    absurd (line-not-refused c.args.call _ c.requires (search rules) wrote.result _ wrote.ensures _ c.in-Refused.is)
+    absurd (line-not-refused c.args.call _ c.requires (search rules) wrote.result _ wrote.ensures _ c.in-Err.is)
