@@ -29,10 +29,10 @@ front out w rest n e l = rw (l, e) (take-append_seam w rest)
 over-writes : {keys rows written : List ℕ} {s : Session} {pieces : List (List ℕ)} → Over keys rows s pieces written
     → (r : Runner) → Alike (runner_in keys rows s) r → written ≡ (feed_pieces r pieces).written ++ (finish (feed_pieces r pieces).runner).written
 unfolding feed_pieces
-over-writes (at_end {out' = out'} {r = ran} e) r a = front out' _ _ ran.len e.written e.length_is ∙ ap (λ (f : Fed). f.written) (finish-alike a)
-over-writes {keys} {rows} {s = s} (after_piece {piece = piece} {pieces} {out' = out'} {rest} {r = ran} e more) r a =
+over-writes (at_end {out' = out'} {len = n} e) r a = front out' _ _ n e.written e.length_is ∙ ap (λ (f : Fed). f.written) (finish-alike a)
+over-writes {keys} {rows} {s = s} (after_piece {piece = piece} {pieces} {out' = out'} {rest} {len = len} e more) r a =
     let n = feed-alike piece a in
-    let wrote : take ran.len out' ≡ (feed r piece).written = front out' _ _ ran.len e.written e.length_is ∙ n.written in
+    let wrote : take len out' ≡ (feed r piece).written = front out' _ _ len e.written e.length_is ∙ n.written in
     let next : Alike _ (feed r piece).runner = record {
       machines = e.machine ∙ n.runners.machines;
       lines =

@@ -7,7 +7,7 @@ use mathlib.Core.Bool.{Bool, true, false}
 use mathlib.Core.List.{List, ◌++◌}
 use lib.Dec.{leb}
 use lib.ListN.{length, take}
-use lib.Seq.{take_all, length-take-le, take-append-add, paste, take-paste}
+use lib.Seq.{take_all, length-take-le, take-append-add}
 use borrow.Author.Tests.{leb-true, leb-false}
 use Rattle.line.specs.Calls.{read_line}
 use Rattle.line.proofs.CallLaws.{too_long}
@@ -38,17 +38,12 @@ take-least k l = by (leb k (length l)) refl
         let m : length l ≤ min k (length l) = omega arith in
         take_all (min k (length l)) l m ∙ sym (take_all k l (omega arith))
 
-module _ (bytes part : List ℕ) (len : ℕ) (fits : len ≤ kept_length) (size : length bytes ≡ kept_length) where
-  -- how many of the characters there is room for
-  abbrev pub more : ℕ
-  more = min (kept_length - len) (length part)
-
-  pub kept_append : take (len + more) (paste bytes len part more) ≡ take kept_length (take len bytes ++ part)
-  kept_append =
-      let front = take len bytes in
-      let n : length front ≡ len = length-take-le len bytes (omega arith) in
-      let room : length front + (kept_length - len) ≡ kept_length = omega arith in
-      take-paste bytes len part more (omega arith) (omega arith)
-      ∙ ap (λ (l : List ℕ). front ++ l) (take-least (kept_length - len) part)
-      ∙ sym (take-append-add front part (kept_length - len))
-      ∙ ap (λ (k : ℕ). take k (front ++ part)) room
+-- As many of the characters are added as there is room for.
+pub kept-append : (line part : List ℕ) (room : ℕ) → length line ≤ kept_length → room ≡ min (kept_length - length line) (length part)
+    → line ++ take room part ≡ take kept_length (line ++ part)
+kept-append line part room fits e =
+    let all : length line + (kept_length - length line) ≡ kept_length = omega arith in
+    ap (λ (n : ℕ). line ++ take n part) e
+    ∙ ap (λ (l : List ℕ). line ++ l) (take-least (kept_length - length line) part)
+    ∙ sym (take-append-add line part (kept_length - length line))
+    ∙ ap (λ (k : ℕ). take k (line ++ part)) all

@@ -1,13 +1,14 @@
 -- A session between two pieces of the input, and what the next line, a run over one piece, and the end of the input make of it.
 -- Assumes nothing.
-use Rattle.std.specs.Prelude.{ℕ, ◌+◌, ◌*◌, ◌≤◌, ◌≡◌, true, List, [], ◌++◌, ltb, length, take, drop, replicate}
+use Rattle.std.specs.Prelude.{ℕ, ◌+◌, ◌*◌, ◌≤◌, ◌≡◌, cond, List, [], ◌++◌, ltb, length, take, drop, replicate, Option, Some, None}
+use Rattle.line.specs.declared.Call.{Call}
 use Rattle.keys.specs.Keys.{rows_length}
 use Rattle.def.specs.State.{slots}
 use Rattle.line.specs.Calls.{read_line}
 use Rattle.line.specs.Lines.{line_end, line_at}
 use Rattle.machine.specs.Running.{machine_in, new_scalars, Runs}
-use Rattle.run.specs.declared.{NextLine.NextLine, Session.Session, Ran.Ran}
-use Rattle.run.specs.Partial.{kept_length, held_line, Room}
+use Rattle.run.specs.declared.Session.{Session}
+use Rattle.run.specs.Partial.{kept_length}
 use Rattle.run.specs.Run.{Runner, feed, finish}
 
 -- The line of an answer has 17 characters.
@@ -16,24 +17,22 @@ answer_size = 17
 
 -- The run that lent arrays and a session stand for.
 abbrev pub runner_in : List ℕ → List ℕ → Session → Runner
-runner_in keys rows s = record { machine = machine_in keys rows s.scalars; line = held_line s.partial }
+runner_in keys rows s = record { machine = machine_in keys rows s.scalars; line = s.partial.items }
 
--- The next line, `held` being what stands before the piece: whether it ends inside the piece, and then what it says and the place behind it.
-pub record NextIs (r : NextLine) (held piece : List ℕ) (at : ℕ) : Type 0 where
-  pub ends : r.complete ≡ ltb (line_end piece at) (length piece)
-  pub says : r.complete ≡ true → r.line ≡ read_line (held ++ line_at piece at)
-  pub behind : r.complete ≡ true → r.next ≡ line_end piece at + 1
+-- The next line, `held` being what stands before the piece: what it says and the place behind it, or nothing where it doesn't end inside the
+-- piece.
+abbrev pub next_at : List ℕ → List ℕ → ℕ → Option (Option Call × ℕ)
+next_at held piece at =
+    cond (ltb (line_end piece at) (length piece)) (Some (read_line (held ++ line_at piece at), line_end piece at + 1)) None
 
 -- A session whose state is whole.
 pub record SoundSession (keys rows : List ℕ) (s : Session) : Type 0 where
   pub runs : Runs keys rows s.scalars
-  pub room : Room s.partial
 
 -- The session at the start. The new machine's keys and rows are all zero.
 pub record NewSession (s : Session) : Type 0 where
   pub new_scalars : s.scalars ≡ new_scalars
-  pub no_line : held_line s.partial ≡ []
-  pub new_room : Room s.partial
+  pub no_line : s.partial.items ≡ []
 
 abbrev pub new_keys : List ℕ
 new_keys = replicate slots 0
@@ -48,12 +47,12 @@ pub record RunRoom (keys rows : List ℕ) (s : Session) (piece out : List ℕ) :
 
 -- The output begins with what the run over the piece writes and is as it was behind that; the session is the run after it, up to what is
 -- kept of its line.
-pub record RanOver (keys rows : List ℕ) (s : Session) (piece out : List ℕ) (r : Ran) (keys' rows' out' : List ℕ) : Type 0 where
-  pub written : out' ≡ (feed (runner_in keys rows s) piece).written ++ drop r.len out
-  pub length_is : r.len ≡ length (feed (runner_in keys rows s) piece).written
-  pub machine : machine_in keys' rows' r.session.scalars ≡ (feed (runner_in keys rows s) piece).runner.machine
-  pub line : held_line r.session.partial ≡ take kept_length (feed (runner_in keys rows s) piece).runner.line
-  pub stays_sound : SoundSession keys' rows' r.session
+pub record RanOver (keys rows : List ℕ) (s : Session) (piece out : List ℕ) (after : Session) (len : ℕ) (keys' rows' out' : List ℕ) : Type 0 where
+  pub written : out' ≡ (feed (runner_in keys rows s) piece).written ++ drop len out
+  pub length_is : len ≡ length (feed (runner_in keys rows s) piece).written
+  pub machine : machine_in keys' rows' after.scalars ≡ (feed (runner_in keys rows s) piece).runner.machine
+  pub line : after.partial.items ≡ take kept_length (feed (runner_in keys rows s) piece).runner.line
+  pub stays_sound : SoundSession keys' rows' after
 
 pub record EndRoom (keys rows : List ℕ) (s : Session) (out : List ℕ) : Type 0 where
   pub sound : SoundSession keys rows s
@@ -61,9 +60,9 @@ pub record EndRoom (keys rows : List ℕ) (s : Session) (out : List ℕ) : Type 
 
 -- At the end of the input: the answer to a last line that lacks its newline, and the output as it was behind it; the machine is the one
 -- after that line, and the session holds no line.
-pub record EndedOver (keys rows : List ℕ) (s : Session) (out : List ℕ) (r : Ran) (keys' rows' out' : List ℕ) : Type 0 where
-  pub written : out' ≡ (finish (runner_in keys rows s)).written ++ drop r.len out
-  pub length_is : r.len ≡ length (finish (runner_in keys rows s)).written
-  pub machine : machine_in keys' rows' r.session.scalars ≡ (finish (runner_in keys rows s)).runner.machine
-  pub no_line : held_line r.session.partial ≡ []
-  pub stays_sound : SoundSession keys' rows' r.session
+pub record EndedOver (keys rows : List ℕ) (s : Session) (out : List ℕ) (after : Session) (len : ℕ) (keys' rows' out' : List ℕ) : Type 0 where
+  pub written : out' ≡ (finish (runner_in keys rows s)).written ++ drop len out
+  pub length_is : len ≡ length (finish (runner_in keys rows s)).written
+  pub machine : machine_in keys' rows' after.scalars ≡ (finish (runner_in keys rows s)).runner.machine
+  pub no_line : after.partial.items ≡ []
+  pub stays_sound : SoundSession keys' rows' after

@@ -26,7 +26,6 @@ new-sound-session s new = record {
     sized = record { slots_long = length-replicate {A = ℕ} slots 0; rows_long = length-replicate {A = ℕ} rows_length 0 };
     whole_state = ap (λ (m : Machine). whole m.pm) (new-machine new_rows refl) ∙ new-sound.whole_state;
   });
-  room = new.new_room;
 }
 
 pub new-is : (s : Session) → NewSession s → ◌≡◌ {A = Fed} (record { runner = runner_in new_keys new_rows s; written = [] }) new_run

@@ -35,15 +35,16 @@ pub struct CallTeller {
 
 // The run, and what its last piece wrote.
 impl Model for CallTeller {
-    ghost use Rattle.std.specs.Prelude.{◌≡◌, ◌≤◌, length, take};
+    ghost use Rattle.std.specs.Prelude.{◌≡◌, ◌≤◌, ◌*◌, length, take};
     ghost use Rattle.run.specs.Run.{Fed};
-    ghost use Rattle.run.specs.Session.{runner_in, SoundSession};
+    ghost use Rattle.run.specs.Session.{runner_in, SoundSession, answer_size};
+    ghost use Rattle.service.specs.Calls.{piece_room};
 
     ghost Value = { Fed };
 
     ghost view = { λ c. record { runner = runner_in c.keys c.rows c.session; written = take c.len c.out } };
 
-    ghost invariant = { λ c. SoundSession c.keys c.rows c.session × (c.len ≤ length c.out) };
+    ghost invariant = { λ c. SoundSession c.keys c.rows c.session × (length c.out ≡ answer_size * piece_room) × (c.len ≤ answer_size * piece_room) };
 }
 
 impl CallTeller {
@@ -85,22 +86,20 @@ impl Teller for CallTeller {
     ghost ends_so = { calls-end-so };
 
     fn hear(&mut self, piece: &[u8]) {
-        let ran = run_piece(
+        let session = &mut self.session;
+        self.len = run_piece(
             &mut self.keys,
             &mut self.rows,
-            self.session,
+            session,
             piece,
             &mut self.out,
         );
-        self.session = ran.session;
-        self.len = ran.len;
     }
 
     // A last line that lacks its newline is answered as if it had one.
     fn end(&mut self) {
-        let last = run_end(&mut self.keys, &mut self.rows, self.session, &mut self.out);
-        self.session = last.session;
-        self.len = last.len;
+        let last = &mut self.session;
+        self.len = run_end(&mut self.keys, &mut self.rows, last, &mut self.out);
     }
 
     fn output(&self) -> &[u8] {

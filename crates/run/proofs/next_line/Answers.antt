@@ -1,12 +1,10 @@
--- `run::next_line` meets its contract. Assumes nothing.
-use Prim.Native.Nat.{ℕ}
-use mathlib.Core.Path.{◌≡◌, sym, ap, ◌∙◌}
-use borrow.Author.Rules.{rules}
-use lib.ListN.{take}
+-- A good line that stands whole in the piece.
+use Rattle.std.proofs.Common.{rules, sym, ◌∙◌, ◌≡◌, length}
+use Rattle.std.proofs.lemmas.List.{nil_from_length}
 use Rattle.run.proofs.NextLines.{next-found}
 use Rattle.run.proofs.next_line.Goals as goal
 
-pub returns : goal.returns
-returns c =
-    let none_kept : c.args.partial.len ≡ 0 = search rules in
-    next-found (sym c.read_line_at-found.ensures ∙ c.in-Some.is) (ap (λ (n : ℕ). take n c.args.partial.bytes) none_kept)
+pub returns-in-Some : goal.returns-in-Some
+returns-in-Some c =
+    let none : length c.args.partial.now.items ≡ 0 = search rules in
+    next-found c.args.piece.now _ c.args.at (sym c.read_line_at.ensures ∙ c.in-Some.is) (nil_from_length _ none)

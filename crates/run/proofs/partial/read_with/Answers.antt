@@ -1,13 +1,13 @@
--- `run::partial::read_with` meets its contract: the characters that are kept say what the whole line says.
--- Assumes nothing.
-use mathlib.Core.Path.{ap, ◌∙◌}
+-- What is kept of the line says what the line says.
+use Rattle.std.proofs.Common.{◌≤◌, ◌∙◌, ap, length, List, ℕ, take, ◌++◌}
+use lib.Seq.{take_all}
 use Rattle.line.specs.Calls.{read_line}
+use Rattle.run.specs.Partial.{kept_length}
 use Rattle.run.proofs.PartialLaws.{kept-reads}
 use Rattle.run.proofs.partial.read_with.Goals as goal
 
-pub returns-then-partial-eq0 : goal.returns-then-partial-eq0
-returns-then-partial-eq0 c =
-    rw c.if-partial-eq0.true c.read_line.ensures
-
 pub returns : goal.returns
-returns c = c.read_held.ensures ∙ ap read_line c.extended.ensures.0 ∙ kept-reads _
+returns c =
+    let fits : length c.args.partial.now.items ≤ kept_length = rw c.as_slice.ensures.value at c.as_slice.ensures.fits in
+    rw (c.read_line-2.ensures, c.as_slice-2.ensures.value, c.extend-2.ensures, c.extend.ensures, c.as_slice.ensures.value, c.new-line.ensures)
+    (ap (λ (l : List ℕ). read_line (take kept_length (l ++ c.args.part.now))) (take_all kept_length c.args.partial.now.items fits) ∙ kept-reads _)
