@@ -33,6 +33,8 @@ GONE = set("""
     andThen withBackward PassEnd ForwardOfB is-seven CallNotBadPlan LineNotBadPlan age_after_the_side highest_is_eighteen
     plan_interval_for_length read_from_the_start machine_why_rows_for_registers machine_why_of_the_first_slot
     seq/specs/Reverse.antt seq/specs/Table.antt entry/proofs/Opening.antt
+    Passed on_side passes::on_side backward_list passes::backward_list choosing::backward_list poc_derivation answer_for
+    answers/specs/Answers.antt
 """.split())
 
 WORD = r"[A-Za-z_][\w'-]*"
@@ -48,7 +50,8 @@ def of_logic(path):
 
 
 def of_code(path):
-    """What a file of src/ declares, fields and variants too."""
+    """What a file of src/ declares, fields, variants and clauses too."""
+    yield from re.findall(r"\b(?:ensures|requires) (\w+) \{", text(path))
     yield from re.findall(r"\b(?:fn|struct|enum|const|static|mod|type|trait)\s+(\w+)", text(path))
     yield from re.findall(r"(?m)^\s*(?:pub )?(\w+)\s*[:,(]", text(path))
 
