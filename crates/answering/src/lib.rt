@@ -5,7 +5,7 @@ ghost use Rattle.std.specs.Prelude.{◌≡◌};
 ghost use Rattle.running.specs.Slices.{slices};
 ghost use Rattle.answering.specs.Answered.{answer_word, OnSlices};
 
-use line::Reply;
+use line::{Call, Reply};
 use running::reply_on;
 
 // A reply as one number, the form in which C gets it.

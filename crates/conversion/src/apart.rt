@@ -2,8 +2,8 @@
 ghost use Rattle.keys.specs.Keys.{lists_in, Sized};
 ghost use Rattle.conversion.specs.Apart.{TakenSlots, TakenApart};
 
-use def::{EvcPm, Slot};
 use crate::slot::take_slot;
+use def::{EvcPm, Slot};
 use keys::{Rest, SLOTS};
 
 fn take_slots(pic: [Slot; SLOTS], keys: &mut [u64], rows: &mut [u32])

@@ -1,3 +1,3 @@
-mod Defining
-pub mod Opening
+pub mod Opened
 pub mod Calling
+pub mod Defining

@@ -1,14 +1,19 @@
 -- States by value, and the running form: what the entry points share.
 -- Assumes nothing.
-use Rattle.std.specs.Prelude.{ℕ, ◌≡◌, true, List}
-use Rattle.def.specs.declared.{EvcPm.EvcPm, EvcRefP.EvcRefP}
+use Rattle.std.specs.Prelude.{ℕ, ◌≡◌, List, Option, Some, is_some}
+use Rattle.def.specs.declared.{Answer.Answer, PmResult.PmResult, EvcPm.EvcPm, EvcRefP.EvcRefP}
+use Rattle.keys.specs.declared.{Rest.Rest}
 use Rattle.keys.specs.Keys.{lists_in, stands, Sized}
 use Rattle.whole.specs.Whole.{whole}
-use Rattle.entry.specs.declared.opening.{Opened.Opened}
 
 -- It is told whether the state is whole; where it is, keys, rows and rest stand for it. The lists stay.
-pub record Opens (pm : EvcPm) (lists : List EvcRefP) (keys rows : List ℕ) (o : Opened) : Type 0 where
-  pub tells : o.is_whole ≡ whole pm
-  pub stands_for : whole pm ≡ true → stands keys rows o.rest ≡ pm
+pub record Opens (pm : EvcPm) (lists : List EvcRefP) (keys rows : List ℕ) (o : Option Rest) : Type 0 where
+  pub tells : is_some o ≡ whole pm
+  pub stands_for : (rest : Rest) → o ≡ Some rest → stands keys rows rest ≡ pm
   pub lists_stay : lists_in rows ≡ lists
   pub sized : Sized keys rows
+
+-- A call that answers this and leaves this state does what the specification wants.
+pub record Gives (wanted : PmResult) (answer : Answer) (after : EvcPm) : Type 0 where
+  pub answers : answer ≡ wanted.answer
+  pub leaves : after ≡ wanted.pm

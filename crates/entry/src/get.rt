@@ -1,20 +1,23 @@
-// Get by value: the lowest idle picture is leased, else a new one.
-ghost use Rattle.std.specs.Prelude.{◌≡◌};
+// Get: the lowest idle picture is leased, else a new one.
 ghost use Rattle.picman.specs.Get.{get};
+ghost use Rattle.picman.specs.Results.{get_answer};
+ghost use Rattle.entry.specs.Opening.{Gives};
 
-use def::{EvcPm, PmResult};
+use crate::opening::open_state;
+use conversion::together::put_together;
+use def::{EvcPm, Refusal};
 use keys::{ROWS, SLOTS};
-use crate::opening::{finished, not_whole, open_state};
+use picman::Shown;
 
-pub fn evc_picman_get_empty_pic(pm: EvcPm) -> PmResult
-    ensures { result ≡ get pm }
+pub fn evc_picman_get_empty_pic(pm: &mut EvcPm) -> Result<Shown, Refusal>
+    ensures { Gives (get pm.old) (get_answer result) pm.new }
 {
-    let mut keys = [0u64; SLOTS];
-    let mut rows = [0u32; ROWS];
-    let state = open_state(pm, &mut keys, &mut rows);
-    if !state.is_whole {
-        return not_whole(pm);
-    }
-    let called = picman::get::get(&mut keys, &mut rows, state.rest);
-    finished(&keys, &rows, called)
+    let mut keys = [0; SLOTS];
+    let mut rows = [0; ROWS];
+    let Some(mut rest) = open_state(*pm, &mut keys, &mut rows) else {
+        return Err(Refusal::StateNotWhole);
+    };
+    let leased = picman::get::get(&mut keys, &mut rows, &mut rest);
+    *pm = put_together(&keys, &rows, rest);
+    leased
 }

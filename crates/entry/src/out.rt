@@ -1,20 +1,34 @@
-// Out by value: the lowest slot wanted for output whose number is due is handed over.
-ghost use Rattle.std.specs.Prelude.{◌≡◌};
+// Out: the lowest slot wanted for output whose number is due is handed over.
 ghost use Rattle.picman.specs.Out.{out};
+ghost use Rattle.entry.specs.Opening.{Gives};
+ghost use Rattle.entry.specs.Output.{output_answer};
 
-use def::{EvcPm, PmResult};
+use crate::opening::open_state;
+use conversion::together::put_together;
+use def::{EvcPm, Refusal};
 use keys::{ROWS, SLOTS};
-use crate::opening::{finished, not_whole, open_state};
+use picman::Shown;
 
-pub fn evc_picman_out_pic(pm: EvcPm) -> PmResult
-    ensures { result ≡ out pm }
+// Why there is no picture to wait for: none is wanted for output, or the state is not whole.
+#[derive(Clone, Copy)]
+pub enum NoOutput {
+    NoMore,
+    Refused(Refusal),
+}
+
+// `None`: not yet.
+pub fn evc_picman_out_pic(pm: &mut EvcPm) -> Result<Option<Shown>, NoOutput>
+    ensures { Gives (out pm.old) (output_answer result) pm.new }
 {
-    let mut keys = [0u64; SLOTS];
-    let mut rows = [0u32; ROWS];
-    let state = open_state(pm, &mut keys, &mut rows);
-    if !state.is_whole {
-        return not_whole(pm);
+    let mut keys = [0; SLOTS];
+    let mut rows = [0; ROWS];
+    let Some(mut rest) = open_state(*pm, &mut keys, &mut rows) else {
+        return Err(NoOutput::Refused(Refusal::StateNotWhole));
+    };
+    let handed = picman::out::out(&mut keys, &mut rest);
+    *pm = put_together(&keys, &rows, rest);
+    match handed {
+        Ok(shown) => Ok(shown),
+        Err(_) => Err(NoOutput::NoMore),
     }
-    let called = picman::out::out(&mut keys, state.rest);
-    finished(&keys, &rows, called)
 }

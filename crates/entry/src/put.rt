@@ -1,22 +1,29 @@
-// Put by value: marking, then the leased picture goes into the store.
-ghost use Rattle.std.specs.Prelude.{◌≡◌};
+// Put: marking, then the leased picture goes into the store.
 ghost use Rattle.picman.specs.Put.{put};
+ghost use Rattle.picman.specs.Results.{put_answer};
+ghost use Rattle.entry.specs.Opening.{Gives};
 
-use def::{EvcPm, EvcRefP, PmResult, PutCall, REFP_PLACES};
+use crate::opening::open_state;
+use conversion::together::put_together;
+use def::{EvcPm, EvcRefP, PutCall, REFP_PLACES, Refusal};
 use entries::take_lists;
 use keys::{ROWS, SLOTS};
-use crate::opening::{finished, not_whole, open_state};
+use picman::Shown;
 
-pub fn evc_picman_put_pic(pm: EvcPm, refp: [EvcRefP; REFP_PLACES], call: PutCall) -> PmResult
-    ensures { result ≡ put pm refp call }
+pub fn evc_picman_put_pic(
+    pm: &mut EvcPm,
+    refp: [EvcRefP; REFP_PLACES],
+    call: PutCall,
+) -> Result<Option<Shown>, Refusal>
+    ensures { Gives (put pm.old refp call) (put_answer result) pm.new }
 {
-    let mut keys = [0u64; SLOTS];
-    let mut rows = [0u32; ROWS];
+    let mut keys = [0; SLOTS];
+    let mut rows = [0; ROWS];
     take_lists(refp, &mut rows);
-    let state = open_state(pm, &mut keys, &mut rows);
-    if !state.is_whole {
-        return not_whole(pm);
-    }
-    let called = picman::put::put(&mut keys, &mut rows, state.rest, call);
-    finished(&keys, &rows, called)
+    let Some(mut rest) = open_state(*pm, &mut keys, &mut rows) else {
+        return Err(Refusal::StateNotWhole);
+    };
+    let placed = picman::put::put(&mut keys, &mut rows, &mut rest, call);
+    *pm = put_together(&keys, &rows, rest);
+    placed
 }

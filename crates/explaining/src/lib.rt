@@ -6,8 +6,8 @@ ghost use Rattle.std.specs.Prelude.{◌≡◌};
 ghost use Rattle.reasons.specs.Reasons.{why};
 
 use def::{EvcPm, RefpCall, Refusal};
-use judging::why_on;
 use entry::opening::open_state;
+use judging::why_on;
 use keys::{ROWS, SLOTS};
 use reasons::Reason;
 
@@ -16,8 +16,7 @@ pub fn evc_picman_why(pm: EvcPm, call: RefpCall, slot: u8) -> Result<Reason, Ref
 {
     let mut keys = [0u64; SLOTS];
     let mut rows = [0u32; ROWS];
-    let state = open_state(pm, &mut keys, &mut rows);
-    if !state.is_whole {
+    if open_state(pm, &mut keys, &mut rows).is_none() {
         return Err(Refusal::StateNotWhole);
     }
     why_on(&keys, call, slot)

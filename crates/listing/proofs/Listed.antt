@@ -10,12 +10,13 @@ use Rattle.keys.specs.Keys.{lists_in, stands, ComesLists}
 use Rattle.whole.specs.Whole.{whole}
 use Rattle.refp.specs.Lists.{lists_refused, lists, lists_whole}
 use Rattle.refp.proofs.ListLaws.{lists-stay-whole}
-use Rattle.entry.specs.declared.opening.{Opened.Opened}
+use Rattle.std.specs.Prelude.{Option, Some, None}
+use Rattle.keys.specs.declared.{Rest.Rest}
 use Rattle.entry.specs.Opening.{Opens}
-use Rattle.entry.proofs.Opening.{came-whole, came-broken, opened-is}
+use Rattle.entry.proofs.Opened.{came-whole, came-broken, opened-is}
 
-module _ {pm : EvcPm} {refp : List EvcRefP} {keys rows : List ℕ} {o : Opened} (p : Opens pm refp keys rows o) (c : RefpCall) where
-  pub lists-turned-away : o.is_whole ≡ false → lists_refused Refusal.StateNotWhole pm refp ≡ lists pm refp c
+module _ {pm : EvcPm} {refp : List EvcRefP} {keys rows : List ℕ} {o : Option Rest} (p : Opens pm refp keys rows o) (c : RefpCall) where
+  pub lists-turned-away : o ≡ None → lists_refused Refusal.StateNotWhole pm refp ≡ lists pm refp c
   unfolding lists
   lists-turned-away e = rw (came-broken p e) refl
 
@@ -23,9 +24,9 @@ module _ {pm : EvcPm} {refp : List EvcRefP} {keys rows : List ℕ} {o : Opened} 
   unfolding lists
   whole-lists w = rw w refl
 
-  module _ (e : o.is_whole ≡ true) {r : Called} {after : List ℕ}
-      (came : ComesLists r keys after (lists_whole (stands keys rows o.rest) (lists_in rows) c)) where
-    on-whole : lists pm refp c ≡ lists_whole (stands keys rows o.rest) (lists_in rows) c
+  module _ {rest : Rest} (e : o ≡ Some rest) {r : Called} {after : List ℕ}
+      (came : ComesLists r keys after (lists_whole (stands keys rows rest) (lists_in rows) c)) where
+    on-whole : lists pm refp c ≡ lists_whole (stands keys rows rest) (lists_in rows) c
     on-whole =
         whole-lists (came-whole p e) ∙ ap₂ (λ (q : EvcPm) (es : List EvcRefP). lists_whole q es c) (sym (opened-is p e)) (sym p.lists_stay)
 

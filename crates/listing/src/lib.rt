@@ -5,10 +5,11 @@
 ghost use Rattle.std.specs.Prelude.{◌≡◌};
 ghost use Rattle.refp.specs.Lists.{lists};
 
+use conversion::together::put_together;
 use def::{Answer, EvcPm, EvcRefP, REFP_PLACES, RefpCall, RefpResult, Refusal};
 use entries::{put_lists, take_lists};
-use entry::opening::{finished, open_state};
-use keys::{Called, ROWS, SLOTS};
+use entry::opening::open_state;
+use keys::{ROWS, SLOTS};
 use refp::lists_answer;
 
 pub fn evc_picman_refp_init(pm: EvcPm, refp: [EvcRefP; REFP_PLACES], call: RefpCall) -> RefpResult
@@ -17,23 +18,17 @@ pub fn evc_picman_refp_init(pm: EvcPm, refp: [EvcRefP; REFP_PLACES], call: RefpC
     let mut keys = [0u64; SLOTS];
     let mut rows = [0u32; ROWS];
     take_lists(refp, &mut rows);
-    let state = open_state(pm, &mut keys, &mut rows);
-    if !state.is_whole {
+    let Some(mut rest) = open_state(pm, &mut keys, &mut rows) else {
         return RefpResult {
             answer: Answer::Refused(Refusal::StateNotWhole),
             pm,
             refp,
         };
-    }
-    let mut rest = state.rest;
+    };
     let given = filling::refp_init(&keys, &mut rows, &mut rest, call);
-    let answer = lists_answer(given);
-    let done = finished(&keys, &rows, Called { answer, rest });
-    let after = done.pm;
-    let filled = put_lists(&rows);
     RefpResult {
-        answer: done.answer,
-        pm: after,
-        refp: filled,
+        answer: lists_answer(given),
+        pm: put_together(&keys, &rows, rest),
+        refp: put_lists(&rows),
     }
 }

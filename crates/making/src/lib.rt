@@ -8,8 +8,8 @@ ghost use Rattle.machine.specs.Running.{reads_state, CallRoom, MakesCall};
 
 use calls::{get_call, init_call, out_call, poc_call, put_call, refp_call};
 use line::{Call, Reply};
-use machine::fields::{put_call_of, refp_call_of};
 use machine::Scalars;
+use machine::fields::{put_call_of, refp_call_of};
 
 // Every call but the derivation reads the state.
 pub fn reads_state(call: Call) -> bool

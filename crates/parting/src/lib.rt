@@ -7,9 +7,9 @@ ghost use Rattle.machine.specs.Running.{machine_in, Runs};
 ghost use Rattle.parting.specs.Parts.{TakenMachine};
 
 use conversion::apart::take_apart;
+use conversion::together::put_together;
 use entries::{put_lists, take_lists};
 use machine::{Machine, Scalars};
-use conversion::together::put_together;
 
 pub fn take_machine(m: Machine, keys: &mut [u64], rows: &mut [u32]) -> Scalars
     requires { Sized keys.old rows.old }

@@ -159,7 +159,11 @@ module _ (keys rows : List ℕ) (rest : Rest) (sized : Sized keys rows) (w : who
         let f = found-free found h in
         calls_by (place-stored (stands before rows rest₀) pm (lists_in rows) c f.0 ∙ ap (λ (i : ℕ). stored i pm (lists_in rows) c) f.1)
         (rw d.shows (calls-picture d.rows_placed (record {
-          answers = refl; stands_for = d.stands_placed; lists_stay = d.lists_placed; still_sized = d.sized_placed })))
+          answers = refl;
+          stands_for = d.stands_placed;
+          lists_stay = d.lists_placed;
+          still_sized = d.sized_placed;
+        })))
 
 -- ---- the picture in its slot
 

@@ -15,7 +15,6 @@ use Rattle.registers.specs.Registers.{registers_length}
 use Rattle.whole.specs.Whole.{whole}
 use Rattle.line.specs.declared.Call.{Call}
 use Rattle.line.specs.declared.{Line.Line}
-use Rattle.reasons.specs.declared.Reason.{Reason}
 use Rattle.reasons.specs.Reasons.{why_whole, why}
 use Rattle.std.specs.Prelude.{Option}
 use Rattle.questions.specs.Asked.{question_in, reason_length, why_asked, bad_why, if_fits}

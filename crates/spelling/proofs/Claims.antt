@@ -111,8 +111,12 @@ plain-slice slice h = by (eqb slice 1) (eqb slice 2) (eqb slice 3)
 number-slice : (slice : ℕ) → slice < 256 → slice_word (decimal slice) ≡ Some slice
 number-slice slice h =
     let d = (read-decimal slice (omega arith)).digits in
-    rw (no-name "I" (decimal slice) d refl, no-name "P" (decimal slice) d refl, no-name "B" (decimal slice) d refl,
-      decimal-read slice 255 (omega arith) (omega arith))
+    rw (
+      no-name "I" (decimal slice) d refl,
+      no-name "P" (decimal slice) d refl,
+      no-name "B" (decimal slice) d refl,
+      decimal-read slice 255 (omega arith) (omega arith),
+    )
 
 slice-read : (slice : ℕ) → slice < 256 → slice_word (slice_name slice) ≡ Some slice
 slice-read slice h = by (eqb slice 1) refl (eqb slice 2) refl (eqb slice 3) refl

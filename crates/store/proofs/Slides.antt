@@ -25,5 +25,4 @@ module _ {A : Type 0} where
       → ys ≡ drop 1 (mid_of i (length xs - i) xs) ++ take 1 (mid_of i (length xs - i) xs)
       → put_mid i (length xs - i) xs ys ≡ move_to d i (length xs - 1) xs
   slides d i xs ys h e = put_mid-rotated i (length xs - i) xs ys d h (omega arith) e ∙ moved d i (length xs - 1) xs (omega arith) (omega arith)
-
   -- the element was replaced by z before

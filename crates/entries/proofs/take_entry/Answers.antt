@@ -17,7 +17,7 @@ bounds-rows-j-2 c = simp length-set (let l = c.requires.0 in omega arith)
 
 pub write_row-requires : goal.write_row-requires
 write_row-requires c =
-    (simp (length-set, length-set) c.requires.0, search rules, let h = c.requires.1 in omega arith)
+    (simp (length-set, length-set) c.requires.0, let h = c.requires.1 in omega arith)
 
 pub returns : goal.returns
 returns c =

@@ -1,5 +1,5 @@
 -- `image_why::ask_image` meets its contract: what the entry point by value answers is shown. Assumes nothing.
-use Rattle.std.proofs.Common.{Result, Ok, Err}
+use Rattle.std.proofs.Common.{Result}
 use mathlib.Core.Path.{ap, ◌∙◌}
 use Rattle.def.specs.declared.{EvcPm.EvcPm}
 use Rattle.def.specs.declared.Refusal.{Refusal}

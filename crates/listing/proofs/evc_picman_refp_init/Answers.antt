@@ -2,37 +2,31 @@
 use mathlib.Core.Path.{refl, ◌∙◌}
 use mathlib.Core.List.{List}
 use Prim.Native.Nat.{ℕ}
-use borrow.Author.Tests.{not-true, not-false}
 use Rattle.def.specs.declared.{EvcPm.EvcPm, EvcRefP.EvcRefP}
 use Rattle.keys.specs.Keys.{lists_in}
 use Rattle.entries.specs.Entries.{ListsTaken}
-use Rattle.entry.specs.declared.opening.{Opened.Opened}
 use Rattle.entry.specs.Opening.{Opens}
-use Rattle.entry.proofs.Opening.{opened-whole}
+use Rattle.entry.proofs.Opened.{opened-whole}
+use Rattle.entry.proofs.Defining.{opened}
 use Rattle.listing.proofs.Listed.{lists-turned-away, lists-still-whole, lists-come-to}
 use Rattle.listing.proofs.evc_picman_refp_init.Goals as goal
 
--- the state as it was opened, with the lists that came
-opened : {pm : EvcPm} {refp : List EvcRefP} {before keys rows : List ℕ} {o : Opened} → ListsTaken refp before → Opens pm (lists_in before) keys rows o
-    → Opens pm refp keys rows o
-opened t o = record { tells = o.tells; stands_for = o.stands_for; lists_stay = o.lists_stay ∙ t.lists_are; sized = o.sized }
-
-pub returns-then-not-state : goal.returns-then-not-state
-returns-then-not-state c = lists-turned-away (opened c.take_lists.ensures c.open_state-state.ensures) _ (not-true _ c.if-not-state.true)
+pub returns-in_default : goal.returns-in_default
+returns-in_default c = lists-turned-away (opened c.take_lists.ensures c.open_state.ensures) _ c.in_default.is
 
 pub refp_init-given-requires : goal.refp_init-given-requires
 refp_init-given-requires c =
-    let o = opened c.take_lists.ensures c.open_state-state.ensures in
-    record { sized = o.sized; is_whole = opened-whole o (not-false _ c.if-not-state.false) }
+    let o = opened c.take_lists.ensures c.open_state.ensures in
+    record { sized = o.sized; is_whole = opened-whole o c.in-Some.is }
 
-pub finished-done-requires : goal.finished-done-requires
-finished-done-requires c =
-    let o = opened c.take_lists.ensures c.open_state-state.ensures in
+pub put_together-requires : goal.put_together-requires
+put_together-requires c =
+    let o = opened c.take_lists.ensures c.open_state.ensures in
     let came = c.refp_init-given.ensures.comes in
-    (came.lists_sized, lists-still-whole o _ (not-false _ c.if-not-state.false) came)
+    (came.lists_sized, lists-still-whole o _ c.in-Some.is came)
 
 pub returns : goal.returns
 returns c =
-    let o = opened c.take_lists.ensures c.open_state-state.ensures in
-    rw (c.put_lists-filled.ensures, c.finished-done.ensures, c.lists_answer-answer.ensures)
-    (lists-come-to o _ (not-false _ c.if-not-state.false) c.refp_init-given.ensures.comes)
+    let o = opened c.take_lists.ensures c.open_state.ensures in
+    rw (c.put_lists.ensures, c.put_together.ensures, c.lists_answer.ensures)
+    (lists-come-to o _ c.in-Some.is c.refp_init-given.ensures.comes)

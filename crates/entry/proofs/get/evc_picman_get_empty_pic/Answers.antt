@@ -1,26 +1,18 @@
--- a state that is not whole is handed back, and else the core's call is
--- the definition's. Assumes nothing.
-use mathlib.Core.Path.{◌∙◌}
-use borrow.Author.Tests.{not-true, not-false}
-use Rattle.entry.proofs.Opening.{opened-whole}
-use Rattle.entry.proofs.Calling.{turned-away, still-whole, comes_to}
+use Rattle.entry.proofs.Opened.{opened-whole}
+use Rattle.entry.proofs.Calling.{turned-away, still-whole, gives}
 use Rattle.entry.proofs.Defining.{get-defined}
 use Rattle.entry.proofs.get.evc_picman_get_empty_pic.Goals as goal
 
-pub returns-then-not-state : goal.returns-then-not-state
-returns-then-not-state c =
-    c.not_whole.ensures ∙ turned-away get-defined c.open_state-state.ensures (not-true _ c.if-not-state.true)
+pub returns-in_default : goal.returns-in_default
+returns-in_default c = turned-away (get-defined) (c.open_state.ensures) c.in_default.is
 
-pub get-called-requires : goal.get-called-requires
-get-called-requires c =
-    let o = c.open_state-state.ensures in
-    (o.sized, opened-whole o (not-false _ c.if-not-state.false))
+pub get-leased-requires : goal.get-leased-requires
+get-leased-requires c = (c.open_state.ensures.sized, opened-whole c.open_state.ensures c.in-Some.is)
 
-pub finished-requires : goal.finished-requires
-finished-requires c =
-    let came = c.get-called.ensures.comes in
-    (came.still_sized, still-whole get-defined c.open_state-state.ensures (not-false _ c.if-not-state.false) came)
+pub put_together-requires : goal.put_together-requires
+put_together-requires c =
+    let came = c.get-leased.ensures.comes in
+    (came.still_sized, still-whole (get-defined) (c.open_state.ensures) c.in-Some.is came)
 
 pub returns : goal.returns
-returns c =
-    c.finished.ensures ∙ comes_to get-defined c.open_state-state.ensures (not-false _ c.if-not-state.false) c.get-called.ensures.comes
+returns c = rw c.put_together.ensures (gives (get-defined) (c.open_state.ensures) c.in-Some.is (c.get-leased.ensures.comes))

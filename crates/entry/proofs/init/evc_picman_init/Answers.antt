@@ -1,21 +1,14 @@
--- a state that is not whole is handed back, and else the core's call is the definition's. Assumes nothing.
-use mathlib.Core.Path.{◌∙◌}
-use borrow.Author.Tests.{not-true, not-false}
-use Rattle.entry.proofs.Calling.{turned-away, still-whole, comes_to}
-use Rattle.entry.proofs.InitDefined.{init-defined}
+use Rattle.entry.proofs.Calling.{turned-away, still-whole, gives}
+use Rattle.entry.proofs.Defining.{init-defined}
 use Rattle.entry.proofs.init.evc_picman_init.Goals as goal
 
-pub returns-then-not-state : goal.returns-then-not-state
-returns-then-not-state c =
-    c.not_whole.ensures ∙ turned-away (init-defined c.args.max_pb_size c.args.max_num_ref_pics) c.open_state-state.ensures (not-true _ c.if-not-state.true)
+pub returns-in_default : goal.returns-in_default
+returns-in_default c = turned-away (init-defined c.args.max_pb_size c.args.max_num_ref_pics) (c.open_state.ensures) c.in_default.is
 
-pub finished-requires : goal.finished-requires
-finished-requires c =
-    let o = c.open_state-state.ensures in
-    let came = (c.init-called.ensures _ _ o.sized).comes in
-    (o.sized, still-whole (init-defined c.args.max_pb_size c.args.max_num_ref_pics) o (not-false _ c.if-not-state.false) came)
+pub put_together-requires : goal.put_together-requires
+put_together-requires c =
+    let came = (c.init-done.ensures _ _ c.open_state.ensures.sized).comes in
+    (came.still_sized, still-whole (init-defined c.args.max_pb_size c.args.max_num_ref_pics) (c.open_state.ensures) c.in-Some.is came)
 
 pub returns : goal.returns
-returns c =
-    let o = c.open_state-state.ensures in
-    c.finished.ensures ∙ comes_to (init-defined c.args.max_pb_size c.args.max_num_ref_pics) o (not-false _ c.if-not-state.false) (c.init-called.ensures _ _ o.sized).comes
+returns c = rw c.put_together.ensures (gives (init-defined c.args.max_pb_size c.args.max_num_ref_pics) (c.open_state.ensures) c.in-Some.is ((c.init-done.ensures _ _ c.open_state.ensures.sized).comes))

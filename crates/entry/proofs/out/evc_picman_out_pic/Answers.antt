@@ -1,31 +1,36 @@
--- a state that is not whole is handed back, and else the core's call is the definition's. Assumes nothing.
-use mathlib.Core.Path.{◌∙◌}
-use borrow.Author.Tests.{not-true, not-false}
-use Rattle.entry.proofs.Opening.{opened-whole}
-use Rattle.entry.proofs.Calling.{turned-away, still-whole, comes_to}
-use Rattle.entry.proofs.Defining.{out-defined}
+use Rattle.std.proofs.Common.{◌≡◌, refl}
+use Rattle.std.specs.Prelude.{Option, Some, None, Ok}
+use Rattle.picman.specs.declared.{Shown.Shown}
+use Rattle.picman.specs.Results.{out_answer}
 use Rattle.picman.proofs.OutOnKeys.{numbers_fit}
+use Rattle.entry.specs.Output.{output_answer}
+use Rattle.entry.proofs.Opened.{opened-whole}
+use Rattle.entry.proofs.Calling.{turned-away, still-whole, gives}
+use Rattle.entry.proofs.Defining.{out-defined}
 use Rattle.entry.proofs.out.evc_picman_out_pic.Goals as goal
 
-pub returns-then-not-state : goal.returns-then-not-state
-returns-then-not-state c =
-    c.not_whole.ensures ∙ turned-away out-defined c.open_state-state.ensures (not-true _ c.if-not-state.true)
+same_answer : (x : Option Shown) → output_answer (Ok x) ≡ out_answer (Ok x)
+same_answer (Some s) = refl
+same_answer None = refl
 
-pub out-called-requires : goal.out-called-requires
-out-called-requires c =
-    let o = c.open_state-state.ensures in (
-      o.sized.slots_long,
-      numbers_fit c.open_state-state.new.keys c.open_state-state.new.rows c.open_state-state.result.rest
-          o.sized.slots_long (opened-whole o (not-false _ c.if-not-state.false)),
-    )
+pub returns-in_default : goal.returns-in_default
+returns-in_default c = turned-away out-defined c.open_state.ensures c.in_default.is
 
-pub finished-requires : goal.finished-requires
-finished-requires c =
-    let o = c.open_state-state.ensures in
-    let came = (c.out-called.ensures _ o.sized.rows_long).comes in
-    (came.still_sized, still-whole out-defined o (not-false _ c.if-not-state.false) came)
+pub out-handed-requires : goal.out-handed-requires
+out-handed-requires c =
+    let o = c.open_state.ensures in
+    (o.sized.slots_long, numbers_fit c.open_state.new.keys c.open_state.new.rows c.in-Some.rest o.sized.slots_long (opened-whole o c.in-Some.is))
 
-pub returns : goal.returns
-returns c =
-    let o = c.open_state-state.ensures in
-    c.finished.ensures ∙ comes_to out-defined o (not-false _ c.if-not-state.false) (c.out-called.ensures _ o.sized.rows_long).comes
+pub put_together-requires : goal.put_together-requires
+put_together-requires c =
+    let came = (c.out-handed.ensures _ c.open_state.ensures.sized.rows_long).comes in
+    (came.still_sized, still-whole out-defined c.open_state.ensures c.in-Some.is came)
+
+pub returns-in-Ok : goal.returns-in-Ok
+returns-in-Ok c =
+    rw (c.put_together.ensures, same_answer c.in-Ok.shown)
+    (gives out-defined c.open_state.ensures c.in-Some.is (c.in-Ok.ensures _ c.open_state.ensures.sized.rows_long).comes)
+
+pub returns-in-Err : goal.returns-in-Err
+returns-in-Err c =
+    rw c.put_together.ensures (gives out-defined c.open_state.ensures c.in-Some.is (c.in-Err.ensures _ c.open_state.ensures.sized.rows_long).comes)

@@ -1,0 +1,31 @@
+-- A state that came and was opened: whether it is whole, and that keys, rows and rest then stand for it.
+-- Assumes nothing.
+use mathlib.Core.Path.{◌≡◌, sym, ap, ◌∙◌}
+use mathlib.Core.Bool.{true, false}
+use mathlib.Core.List.{List}
+use Prim.Native.Nat.{ℕ}
+use lib.ListN.{length, length-map}
+use Rattle.std.specs.Prelude.{Option, Some, None, is_some}
+use Rattle.def.specs.State.{slots}
+use Rattle.def.specs.declared.{EvcPm.EvcPm, EvcRefP.EvcRefP}
+use Rattle.keys.specs.declared.{Rest.Rest}
+use Rattle.keys.specs.Keys.{slot_at, stands}
+use Rattle.whole.specs.Whole.{whole}
+use Rattle.entry.specs.Opening.{Opens}
+
+module _ {pm : EvcPm} {refp : List EvcRefP} {keys rows : List ℕ} {o : Option Rest} (p : Opens pm refp keys rows o) where
+  pub came-broken : o ≡ None → whole pm ≡ false
+  came-broken e = sym p.tells ∙ ap is_some e
+
+  module _ {rest : Rest} (e : o ≡ Some rest) where
+    pub came-whole : whole pm ≡ true
+    came-whole = sym p.tells ∙ ap is_some e
+
+    pub opened-is : stands keys rows rest ≡ pm
+    opened-is = p.stands_for rest e
+
+    pub opened-whole : whole (stands keys rows rest) ≡ true
+    opened-whole = ap whole opened-is ∙ came-whole
+
+    pub came-long : length pm.pic ≡ slots
+    came-long = rw (← opened-is) (length-map keys (slot_at rows) ∙ p.sized.slots_long)
