@@ -24,7 +24,7 @@ ELSEWHERE = set("""
     src/picman.rs src/enc/mod.rs api/frame.rs picman.rs util.rs def.rs api/mod.rs enc/mod.rs enc/tbl.rs ../shared/docs/src
     picman_move_pic picman_remove_pic_from_pb EVC_ERR EVC_ERR_UNKNOWN EVC_ERR_UNSUPPORTED EvceCtx PRINT_DPB Rc RefCell continue disable_hgop
     read write errno strerror_r memcpy memset stdin stdout REVC_SRC
-    f32 i32 u8 u64 foldl ensures requires search
+    f32 i32 u8 u64 foldl ensures requires search static Result TryFrom wrapping_add wrapping_neg arrayvec itoa ArrayVec ArrayString
     fly idr ref gap intra every mixed withdrawn SomeClaim some-claim some_claim NAME/must-fail/X.edit
 """.split()) | {"init: done", "put: done", "NAME: X"}
 
@@ -33,6 +33,8 @@ GONE = set("""
     andThen withBackward PassEnd ForwardOfB is-seven CallNotBadPlan LineNotBadPlan age_after_the_side highest_is_eighteen
     plan_interval_for_length read_from_the_start machine_why_rows_for_registers machine_why_of_the_first_slot
     seq/specs/Reverse.antt seq/specs/Table.antt entry/proofs/Opening.antt
+    Passed on_side passes::on_side backward_list passes::backward_list choosing::backward_list poc_derivation answer_for
+    answers/specs/Answers.antt
 """.split())
 
 WORD = r"[A-Za-z_][\w'-]*"
@@ -48,7 +50,9 @@ def of_logic(path):
 
 
 def of_code(path):
-    """What a file of src/ declares, fields and variants too."""
+    """What a file of src/ declares, fields, variants, clauses and ghost members too."""
+    yield from re.findall(r"\b(?:ensures|requires) (\w+) \{", text(path))
+    yield from re.findall(r"(?m)^\s*ghost (\w+)\s*[:=]", text(path))
     yield from re.findall(r"\b(?:fn|struct|enum|const|static|mod|type|trait)\s+(\w+)", text(path))
     yield from re.findall(r"(?m)^\s*(?:pub )?(\w+)\s*[:,(]", text(path))
 
