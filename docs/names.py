@@ -97,7 +97,7 @@ def is_there(word, names, crates, is_note):
 def main():
     names, crates = names_and_crates()
     wrong, count = [], 0
-    pages = [page for page in files("docs/*.md") if not page.endswith("/PORT.md")]
+    pages = [page for page in files("docs/*.md") if not page.endswith(("/PORT.md", "/DESIGN-PASS.md"))]
     for document in ["README.md", "oracle/README.md"] + pages + files("docs/landings/*.md"):
         prose = re.sub(r"(?ms)^```.*?^```$", "", text(document))
         words = re.findall(r"`([^`\n]+)`", prose)
