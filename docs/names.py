@@ -1,8 +1,8 @@
 #!/usr/bin/env python3
 """Whether what the documents name is there: run it from anywhere, no argument; it says what is not, and ends with 1, or ends with 0.
 
-It reads what stands between backquotes in README.md, docs/, docs/landings/ and oracle/README.md, but for blocks of code and for docs/PORT.md,
-which holds names of before:
+It reads what stands between backquotes in README.md, docs/, docs/landings/ and oracle/README.md, but for blocks of code and for docs/PORT.md and
+docs/DESIGN-PASS.md, which hold names of before:
 
 - a path or a file's name: a file of this repository, at the top or below crates/, a crate, docs/, oracle/ or rust/, but for what is built;
 - `crate: edit`: that must-fail edit; `crate::function`: a function, module or type of that crate;

@@ -1,9 +1,9 @@
 // The running machine for C: three slices that the caller owns, keys, rows and registers, on which calls work in place, with any bits in them.
 // One function for each call, with plain numbers, and one for the bytes of a call line; all are thin over crates `call_lines` and `answering`,
 // `recording`, `renewing`, `one_entry` and `wire`.
-ghost use Rattle.std.specs.Prelude.{Some};
 #![tactic(auto, using(answering::proofs::OnLine::on_line))]
 
+ghost use Rattle.std.specs.Prelude.{Some};
 ghost use Rattle.keys.specs.Keys.{lists_in};
 ghost use Rattle.line.specs.declared.Call.TheVariants.{Init, GetEmptyPic, OutPic, RefpInit, PocDerivation};
 ghost use Rattle.refp.specs.Copy.{copy};
