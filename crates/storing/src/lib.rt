@@ -4,8 +4,7 @@
 
 ghost use Rattle.std.specs.Prelude.{◌≡◌, ◌+◌, ◌*◌, ◌<◌, length, set};
 ghost use Rattle.def.specs.State.{list_places};
-ghost use Rattle.std.proofs.Math.Seq.{paste};
-ghost use Rattle.keys.specs.Keys.{row_length, row_count, head_row, number_row, rows_length, row_at, key_buffer, key_number};
+ghost use Rattle.keys.specs.Keys.{row_length, head_row, number_row, rows_length, row_at, key_buffer, key_number};
 ghost use Rattle.refp.specs.Running.{entry_with, HeldKey, EntryStored, Dropped, WriteRoom, Entered};
 
 use keys::{ENTRY_ROW, HEAD_ROW, NUMBER_ROW, ROW};
@@ -21,17 +20,6 @@ pub fn write_head(rows: &mut [u32], j: usize, head: u32, poc: u32)
     rows[ROW * NUMBER_ROW + j] = poc;
 }
 
-// All numbers of a row go to another row. A loop of a fixed length becomes a few wide moves, where `copy_within` moves one number at a time: a
-// list call takes up to a quarter longer with it.
-fn copy_row(rows: &mut [u32], from: usize, to: usize)
-    requires { (length rows.old ≡ rows_length) × (from < row_count) × (to < row_count) × (from ≡ to → ⊥) }
-    ensures { rows.new ≡ paste rows.old (row_length * to) (row_at rows.old from) row_length }
-{
-    for j in 0..ROW {
-        rows[ROW * to + j] = rows[ROW * from + j];
-    }
-}
-
 // The entry at place `j` takes the picture of a key.
 fn write_entry(rows: &mut [u32], j: usize, key: u64)
     requires { (length rows.old ≡ rows_length) × (j < list_places + list_places) × HeldKey key }
@@ -40,7 +28,9 @@ fn write_entry(rows: &mut [u32], j: usize, key: u64)
 {
     let buf = keys::key::buffer_of(key);
     write_head(rows, j, 2 * (buf as u32) + 1, keys::key::number_of(key));
-    copy_row(rows, buf, ENTRY_ROW + j);
+    // By value, a whole row at a time: `copy_within` moves number by number, and so does a loop of a fixed length.
+    let numbers = keys::row::read_row(rows, buf);
+    keys::row::write_row(rows, ENTRY_ROW + j, &numbers);
 }
 
 // The entries from place `from` on take the pictures of the list's keys.
