@@ -1,5 +1,6 @@
 // One key: number * 2^16 + layer * 2^8 + buffer * 2^3 + wanted * 4 + marked * 2 + 1, and 0 for an empty slot.
-// The tests are written by division, in the nesting of their definitions: they compile to one mask and compare.
+// The tests are written by division, in the nesting of their definitions: they compile to one mask and compare. A key stays a plain number: a
+// newtype crosses to C as well, but the contracts speak of the numbers that `include/picman.h` lays out, and would take each out of it first.
 ghost use Rattle.std.specs.Prelude.{◌≡◌, ◌<◌, ◌≤◌};
 ghost use Rattle.keys.specs.Keys.{key_present, key_marked, key_wanted, key_idle, key_buffer, key_layer, key_number, key_unmarked, key_made};
 

@@ -1,6 +1,8 @@
 // The running form of the picture manager: a slot is one number, a key, and the list numbers of a picture stay in a row under its buffer
 // number, as the original moves pointers and not pictures. The list entries are rows of the same array. `stands` in specs/Keys.antt says
 // which state keys, rows and the rest stand for; every call of the core is stated through it.
+// The slots stay packed, and keys and rows are slices of numbers, because the C interface lends them so: `include/picman.h` fixes their layout, their
+// lengths are tested once, and slots of `Option` would have to be unpacked and packed again in each call (`bench/unpacked` times that).
 #![tactic(auto)]
 
 pub mod key;

@@ -10,7 +10,13 @@ pub fn copy_row(rows: &mut [u32], from: usize, to: usize, n: usize)
     requires { (length rows.old ≡ rows_length) × (from < row_count) × (to < row_count) × (from ≡ to → ⊥) × (n ≤ row_length) }
     ensures { rows.new ≡ paste rows.old (row_length * to) (row_at rows.old from) n }
 {
-    rows.copy_within(ROW * from..ROW * from + n, ROW * to);
+    if from < to {
+        let (front, back) = rows.split_at_mut(ROW * to);
+        back[..n].copy_from_slice(&front[ROW * from..ROW * from + n]);
+    } else {
+        let (front, back) = rows.split_at_mut(ROW * from);
+        front[ROW * to..ROW * to + n].copy_from_slice(&back[..n]);
+    }
 }
 
 // A row all zero.

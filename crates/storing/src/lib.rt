@@ -28,9 +28,7 @@ fn write_entry(rows: &mut [u32], j: usize, key: u64)
 {
     let buf = keys::key::buffer_of(key);
     write_head(rows, j, 2 * (buf as u32) + 1, keys::key::number_of(key));
-    // By value, a whole row at a time: `copy_within` moves number by number, and so does a loop of a fixed length.
-    let numbers = keys::row::read_row(rows, buf);
-    keys::row::write_row(rows, ENTRY_ROW + j, &numbers);
+    keys::row::copy_row(rows, buf, ENTRY_ROW + j, ROW);
 }
 
 // The entries from place `from` on take the pictures of the list's keys.

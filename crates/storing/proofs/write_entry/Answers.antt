@@ -12,7 +12,7 @@ returns c =
     let e = c.buffer_of-buf.ensures.0 in
     let b = c.requires.2.buffer in
     subst₂
-    (λ (b n : ℕ). EntryStored c.args.rows.now c.write_row.new.rows c.args.j (entry_with (2 * b + 1) n (row_at c.args.rows.now b)))
+    (λ (b n : ℕ). EntryStored c.args.rows.now c.copy_row.new.rows c.args.j (entry_with (2 * b + 1) n (row_at c.args.rows.now b)))
     e c.number_of.ensures
     (picture-stored c.args.rows.now c.requires.0 c.args.j c.requires.1 _ _ _ _ c.buffer_of-buf.result
-    (omega arith) c.write_head.ensures (rw c.read_row-numbers.ensures at c.write_row.ensures))
+    (omega arith) c.write_head.ensures c.copy_row.ensures)
