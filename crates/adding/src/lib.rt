@@ -4,7 +4,7 @@
 ghost use Rattle.std.specs.Prelude.{◌≡◌, ◌+◌, ◌*◌, ◌≤◌, eqb, length, take, drop};
 ghost use Rattle.seq.specs.Lists.{any_of};
 ghost use Rattle.def.specs.State.{list_places};
-ghost use Rattle.keys.specs.Keys.{row_length, rows_length, lists_in};
+ghost use Rattle.keys.specs.Keys.{rows_length, lists_in};
 ghost use Rattle.refp.specs.Copy.{copy};
 ghost use Rattle.refp.specs.Answers.{copy_answer};
 ghost use Rattle.refp.specs.Running.{entry_with, rows_with_entry, CopyCame};
@@ -23,7 +23,7 @@ fn number_stands(rows: &[u32], from: usize, n: usize, poc: u32) -> bool
 }
 
 // An entry, given by its parts, goes to place `cnt` of one list unless its number stands among the first `cnt` entries there. `check_copy_refp`
-// of crate `copying` is the same by value; a lent array has its length, which is all that is required.
+// of crate `copying` is the same on entries.
 pub fn copy_refp(
     rows: &mut [u32],
     cnt: u64,
@@ -32,7 +32,7 @@ pub fn copy_refp(
     poc: u32,
     numbers: &[u32; ROW],
 ) -> Result<(), Refusal>
-    requires { (length rows.old ≡ rows_length) × (length numbers.now ≡ row_length) }
+    requires { length rows.old ≡ rows_length }
     ensures { let before = rows.old in
         let stored = rows_with_entry before (lidx * list_places + cnt) head poc numbers.now in
         let wanted = copy (lists_in before) cnt lidx (entry_with head poc numbers.now) in

@@ -13,7 +13,7 @@ fn flag(flags: u8, weight: u8) -> bool
     flags / weight % 2 == 1
 }
 
-// A put's flags are 1 IDR, 2 wanted for output, 4 reference, 8 no picture.
+// A put's flags come as one byte, from a call line and from C: 1 IDR, 2 wanted for output, 4 reference, 8 no picture.
 pub fn put_call_of(flags: u8, poc: u32, temporal_id: u8, ref_pic_gap_length: u32) -> PutCall
     ensures { result ≡ put_call_of flags poc temporal_id ref_pic_gap_length }
 {

@@ -1,6 +1,7 @@
 // What is added to the previous number in sub-groups of up to 256 pictures: for length 2^L and decoding offset d the entry at
 // 2^L + d. For d of layer t, from 2^(t-1) to 2^t - 1, that is 2^L * ((2d + 1) / 2^t - 2), a whole number. To check a row by
 // eye: it is the row before it doubled, and then the odd numbers from 1 - 2^L up to -1.
+// The rows stand in one array, since each is twice as long as the one before it.
 // Nobody reads entry 0, nor the first of a row, whose d is 0; they hold 0.
 pub static POC_OFFSETS: [i16; 512] = [
     0,

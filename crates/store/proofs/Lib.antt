@@ -1,4 +1,3 @@
 pub mod Finding
 pub mod Highest
-mod Slides
 mod Holding

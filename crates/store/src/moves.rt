@@ -9,7 +9,13 @@ pub fn move_last(keys: &mut [u64], pos: usize)
     requires { pos < length keys.old }
     ensures { keys.new ≡ move_to 0 pos (length keys.old - 1) keys.old }
 {
-    keys[pos..].rotate_left(1);
+    let moved = keys[pos];
+    let last = keys.len() - 1;
+    // Not by `rotate_left`, with which a get and a put of a reference took a tenth longer.
+    for i in pos..last {
+        keys[i] = keys[i + 1];
+    }
+    keys[last] = moved;
 }
 
 // The key at `pos` is taken out: those above slide down one, and the last slot empties (picman_remove_pic_from_pb).

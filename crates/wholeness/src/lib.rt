@@ -18,7 +18,7 @@ const KEYS_END: u64 = 0x8000_0000_0000;
 
 const BUFFERS_END: u64 = 1 << SLOTS;
 
-// One pass, over any bits. The lease counts among the buffer numbers and not among the slots.
+// One pass, over any bits, and one mask of all the tests, with no branch between them. The lease counts among the buffer numbers and not among the slots.
 pub fn is_whole(keys: &[u64], rest: Rest) -> bool
     requires { length keys.now ≡ slots }
     ensures { (rows : List ℕ) → result ≡ whole (stands keys.now rows rest) }

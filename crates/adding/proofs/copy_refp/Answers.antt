@@ -7,6 +7,7 @@ use mathlib.Core.List.{List}
 use native.Mathlib.Omega.{arith}
 use lib.Dec.{ltb}
 use lib.ListN.{length, set}
+use borrow.Author.Rules.{rules}
 use borrow.Author.Tests.{lt-ltb, le-ltb}
 use Rattle.def.specs.declared.{EvcRefP.EvcRefP, CopyResult.CopyResult, Answer.Answer, Refusal.Refusal}
 use Rattle.keys.specs.Keys.{rows_length, lists_in}
@@ -55,12 +56,12 @@ module _ (rows : List ℕ) (long : length rows ≡ rows_length) where
 
 pub returns-then-cnt : goal.returns-then-cnt
 unfolding copy
-returns-then-cnt c = turned-down-came c.args.rows.now c.requires.0 Refusal.NoSuchPlace _ (rw (no-place c.args.cnt c.args.lidx c.then-cnt.either) refl)
+returns-then-cnt c = turned-down-came c.args.rows.now c.requires Refusal.NoSuchPlace _ (rw (no-place c.args.cnt c.args.lidx c.then-cnt.either) refl)
 
 pub returns-then-number_stands : goal.returns-then-number_stands
 unfolding copy
 returns-then-number_stands c =
-    turned-down-came c.args.rows.now c.requires.0 Refusal.SameNumber _
+    turned-down-came c.args.rows.now c.requires Refusal.SameNumber _
     (rw (there c.args.cnt c.args.lidx (omega arith) (omega arith), sym c.number_stands.ensures ∙ c.if-number_stands.true) refl)
 
 pub returns : goal.returns
@@ -69,7 +70,7 @@ returns c =
     let a = c.args in
     let j = a.lidx * 21 + a.cnt in
     let e = entry_with a.head a.poc a.numbers.now in
-    copied-came a.rows.now c.requires.0 j e _
+    copied-came a.rows.now c.requires j e _
     (c.write_row.ensures ∙ rw c.write_head.ensures refl)
-    (entry-stored a.rows.now c.requires.0 j (omega arith) a.head a.poc a.numbers.now c.requires.1)
+    (entry-stored a.rows.now c.requires j (omega arith) a.head a.poc a.numbers.now (search rules))
     (rw (there c.args.cnt c.args.lidx (omega arith) (omega arith), sym c.number_stands.ensures ∙ c.if-number_stands.false) refl)

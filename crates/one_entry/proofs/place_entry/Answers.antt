@@ -12,7 +12,7 @@ copy_from_slice-requires c = sym (fitting c.args.rows.now c.args.present c.args.
 
 pub copy_refp-given-requires : goal.copy_refp-given-requires
 copy_refp-given-requires c =
-    ((fitting c.args.rows.now c.args.present c.args.list_poc.now (sym c.is_fit.ensures ∙ c.if-not-is_fit.false)).0, c.copy_from_slice.ensures.len)
+    (fitting c.args.rows.now c.args.present c.args.list_poc.now (sym c.is_fit.ensures ∙ c.if-not-is_fit.false)).0
 
 pub returns : goal.returns
 returns c =

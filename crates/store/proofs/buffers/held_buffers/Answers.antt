@@ -1,4 +1,4 @@
--- `free_buffers::held_buffers` meets its contract: what is flagged so far, with what is left, is what the keys hold. Assumes nothing.
+-- `store::buffers::held_buffers` meets its contract: what is flagged so far, with what is left, is what the keys hold. Assumes nothing.
 use mathlib.Core.Path.{refl, sym, ◌∙◌}
 use mathlib.Core.Bool.{false, or-false}
 use native.Mathlib.Omega.{arith}
