@@ -73,7 +73,7 @@ reply-fits call h (Err why) s =
 -- ---- each call's answer on a whole state
 
 module _ (pm : EvcPm) (w : whole pm ≡ true) where
-  held-shows : (s : Slot) → Memᴰ s (places pm) → s.present ≡ true → Shows (shown s)
+  held-shows : (s : Slot) → Memᴰ s (places pm) → s.present ≡ true → Shows (Ok (shown s))
   held-shows s m here =
       let v = whole-rules pm w in
       let b = v.buffers_below s.buf (Memᴰ.map buffer_of (select-mem is_present (places pm) m here)) in
