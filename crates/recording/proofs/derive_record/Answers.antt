@@ -13,7 +13,7 @@ returns c =
     let replied = c.derived_reply.ensures ∙ ap (derived_reply 6) derived.answer in
     let told = sym (ap is_ok derived.answer) ∙ sym c.is_ok.ensures.value in
     elim c.if-is_ok.branch [
-      then-is_ok w ↦
+      | then-is_ok w ↦
           rw w.registers-is
           (leaves-made _ _ _ c.poc_of-poc.ensures refl replied (told ∙ w.if-is_ok.true) (rw derived.left at w.write_record.ensures))
       | else-is_ok w ↦
