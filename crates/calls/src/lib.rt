@@ -61,7 +61,7 @@ pub fn out_call(keys: &mut [u64], rows: &[u32], s: &mut Scalars) -> Reply
         Makes result s.new s.old keys.old rows.now keys.new rows.now (on_state 4 m (out m.pm)) }
 {
     let handed = picman::out::out(keys, &mut s.rest);
-    reply_of(OUT_PIC, out_answer(handed))
+    reply_of(OUT_PIC, Ok(out_answer(handed)))
 }
 
 pub fn refp_call(keys: &[u64], rows: &mut [u32], s: &mut Scalars, call: RefpCall) -> Reply

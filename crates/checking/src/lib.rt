@@ -6,7 +6,7 @@ ghost use Rattle.def.specs.State.{slots};
 ghost use Rattle.keys.specs.Keys.{Sized};
 ghost use Rattle.machine.specs.Running.{call_byte, is_ready, MakesCall};
 
-use def::{Answer, Refusal};
+use def::Refusal;
 use line::{
     Call, GET_EMPTY_PIC, INIT, OUT_PIC, POC_DERIVATION, PUT_PIC, REFP_INIT, Reply, reply_of,
 };
@@ -43,5 +43,5 @@ pub fn checked_call(keys: &mut [u64], rows: &mut [u32], s: &mut Scalars, call: C
     if is_ready(keys, s, call) {
         return make_call(keys, rows, s, call);
     }
-    reply_of(call_byte(call), Answer::Refused(Refusal::StateNotWhole))
+    reply_of(call_byte(call), Err(Refusal::StateNotWhole))
 }

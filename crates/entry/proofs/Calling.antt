@@ -5,9 +5,10 @@ use mathlib.Core.Bool.{true, false}
 use mathlib.Core.List.{List}
 use Prim.Native.Nat.{ℕ}
 use lib.ListN.{length}
-use Rattle.std.specs.Prelude.{Option, Some, None}
+use Rattle.std.specs.Prelude.{Option, Some, None, Result, Err}
 use Rattle.def.specs.State.{slots}
-use Rattle.def.specs.declared.{Answer.Answer, EvcPm.EvcPm, EvcRefP.EvcRefP, PmResult.PmResult, Refusal.Refusal}
+use Rattle.def.specs.declared.{Answer.Answer, EvcPm.EvcPm, EvcRefP.EvcRefP, Refusal.Refusal}
+use Rattle.def.specs.Results.{PmResult}
 use Rattle.keys.specs.declared.{Rest.Rest}
 use Rattle.keys.specs.Keys.{stands, Comes}
 use Rattle.whole.specs.Whole.{whole}
@@ -23,10 +24,10 @@ pub record Defined (d on : EvcPm → PmResult) : Type 0 where
 
 module _ {d on : EvcPm → PmResult} (f : Defined d on) {pm : EvcPm} {refp : List EvcRefP} {keys rows : List ℕ} {o : Option Rest}
     (p : Opens pm refp keys rows o) where
-  pub turned-away : o ≡ None → Gives (d pm) (Answer.Refused Refusal.StateNotWhole) pm
+  pub turned-away : o ≡ None → Gives (d pm) (Err Refusal.StateNotWhole) pm
   turned-away e = rw (f.broken pm (came-broken p e)) (record { answers = refl; leaves = refl })
 
-  module _ {rest : Rest} (e : o ≡ Some rest) {answer : Answer} {keys' rows' : List ℕ} {rest' : Rest} {lists : List EvcRefP}
+  module _ {rest : Rest} (e : o ≡ Some rest) {answer : Result Answer Refusal} {keys' rows' : List ℕ} {rest' : Rest} {lists : List EvcRefP}
       (came : Comes answer keys' rows' rest' lists (on (stands keys rows rest))) where
     wanted : on (stands keys rows rest) ≡ d pm
     wanted = ap on (opened-is p e) ∙ sym (f.on-whole pm (came-whole p e))

@@ -12,7 +12,7 @@ use Rattle.picman.specs.Put.{remarked, put_marked, put, put_whole}
 use Rattle.picman.specs.Out.{out, out_whole}
 use Rattle.picman.proofs.GetKeeps.{get-keeps-whole}
 use Rattle.picman.proofs.PutLaws.{put-safe}
-use Rattle.std.specs.Prelude.{Option}
+use Rattle.std.specs.Prelude.{Option, Result}
 use Rattle.entries.specs.Entries.{ListsTaken}
 use Rattle.picman.specs.Init.{init, init_whole}
 use Rattle.picman.proofs.InitLaws.{init-keeps-whole}
@@ -50,7 +50,7 @@ opened t o = record { tells = o.tells; stands_for = o.stands_for; lists_stay = o
 
 -- A put on the lists that came.
 pub put-on-lists : {pm : EvcPm} {refp : List EvcRefP} {keys rows : List ℕ} {o : Option Rest} → Opens pm refp keys rows o
-    → (c : PutCall) (rest : Rest) {answer : Answer} {keys' rows' : List ℕ} {rest' : Rest} {lists : List EvcRefP}
+    → (c : PutCall) (rest : Rest) {answer : Result Answer Refusal} {keys' rows' : List ℕ} {rest' : Rest} {lists : List EvcRefP}
     → Comes answer keys' rows' rest' lists (put_whole (stands keys rows rest) (lists_in rows) c)
     → Comes answer keys' rows' rest' lists (put_whole (stands keys rows rest) refp c)
 put-on-lists {keys} {rows} p c rest {answer} {keys'} {rows'} {rest'} {lists} came =

@@ -1,7 +1,8 @@
 -- States by value, and the running form: what the entry points share.
 -- Assumes nothing.
-use Rattle.std.specs.Prelude.{ℕ, ◌≡◌, List, Option, Some, is_some}
-use Rattle.def.specs.declared.{Answer.Answer, PmResult.PmResult, EvcPm.EvcPm, EvcRefP.EvcRefP}
+use Rattle.std.specs.Prelude.{ℕ, ◌≡◌, List, Option, Some, is_some, Result}
+use Rattle.def.specs.declared.{Answer.Answer, Refusal.Refusal, EvcPm.EvcPm, EvcRefP.EvcRefP}
+use Rattle.def.specs.Results.{PmResult}
 use Rattle.keys.specs.declared.{Rest.Rest}
 use Rattle.keys.specs.Keys.{lists_in, stands, Sized}
 use Rattle.whole.specs.Whole.{whole}
@@ -14,6 +15,6 @@ pub record Opens (pm : EvcPm) (lists : List EvcRefP) (keys rows : List ℕ) (o :
   pub sized : Sized keys rows
 
 -- A call that answers this and leaves this state does what the specification wants.
-pub record Gives (wanted : PmResult) (answer : Answer) (after : EvcPm) : Type 0 where
+pub record Gives (wanted : PmResult) (answer : Result Answer Refusal) (after : EvcPm) : Type 0 where
   pub answers : answer ≡ wanted.answer
   pub leaves : after ≡ wanted.pm

@@ -14,7 +14,7 @@ use Rattle.refp.specs.Lists.{lists}
 pub data Shown : Type 0 where
   number : Result PocVal Refusal → ℕ → Shown
   store : List Slot → ℕ → Shown
-  both : Answer → ℕ → ℕ → List ℕ → List ℕ → Shown
+  both : Result Answer Refusal → ℕ → ℕ → List ℕ → List ℕ → Shown
 
 pub record Frame : Type 0 where
   pub given : Shown
@@ -94,7 +94,7 @@ frames =
     ∷ frame (marks 0 (holding (ref 0 ∷ ref 1 ∷ ref 2 ∷ ref 3 ∷ ref 4 ∷ empty 22) 5))
     (store (ref 1 ∷ ref 2 ∷ ref 3 ∷ ref 4 ∷ (empty 22 ++ (picture false 0 0 ∷ []))) 4)
     ∷ frame (marks 4 (holding (ref 3 ∷ ref 4 ∷ ref 5 ∷ empty 24) 3)) (store (ref 3 ∷ ref 4 ∷ (empty 24 ++ (picture false 5 0 ∷ []))) 2)
-    ∷ frame (lists_of 2 asked request) (both (Answer.Counts 2 2) 2 2 (0 ∷ 4 ∷ []) (4 ∷ 8 ∷ []))
+    ∷ frame (lists_of 2 asked request) (both (Ok (Answer.Counts 2 2)) 2 2 (0 ∷ 4 ∷ []) (4 ∷ 8 ∷ []))
     ∷ []
 
 abbrev pub FramesHold : Type 0

@@ -1,6 +1,7 @@
 -- What each call does to slots and lease, gathered here for the proofs of this crate: they rest on these facts alone.
 -- Slots are compared by how many pass a test; a test that does not read the marks sees nothing of marking.
 -- Assumes nothing.
+use Rattle.std.specs.Prelude.{Result, Ok, Err}
 use Prim.Native.Nat.{ℕ, ◌+◌, ◌<◌}
 use mathlib.Core.Path.{◌≡◌, refl, ap, ◌∙◌}
 use mathlib.Core.Bool.{Bool, true, false}
@@ -15,7 +16,8 @@ use Rattle.seq.proofs.Tests.{and_left, count_set}
 use Rattle.seq.proofs.Walks.{lowest-passes, any_found}
 use Rattle.seq.proofs.Orders.{remove-reordered, count-last}
 use Rattle.seq.proofs.Members.{mem-at}
-use Rattle.def.specs.declared.{Slot.Slot, EvcPm.EvcPm, EvcRefP.EvcRefP, PutCall.PutCall, RefpCall.RefpCall, PmResult.PmResult, Answer.Answer, Refusal.Refusal}
+use Rattle.def.specs.declared.{Slot.Slot, EvcPm.EvcPm, EvcRefP.EvcRefP, PutCall.PutCall, RefpCall.RefpCall, Answer.Answer, Refusal.Refusal}
+use Rattle.def.specs.Results.{PmResult}
 use Rattle.def.specs.Refusals.{refusal_number}
 use Rattle.def.proofs.Refusals.{refusals-in-use}
 use Rattle.def.specs.State.{slots, new_pic, empty_slot, no_slot, occupied_by, is_wanted, is_idle, unmarked, handed_over}
@@ -57,12 +59,12 @@ refused-status why = ne_eqb (refusal_number why) 0 (let h = (refusals-in-use why
 
 -- ---- get
 
-pub data GetActs (pm : EvcPm) : Answer → EvcPm → Type 0 where
-  turned_down : (why : Refusal) → GetActs pm (Answer.Refused why) pm
+pub data GetActs (pm : EvcPm) : Result Answer Refusal → EvcPm → Type 0 where
+  turned_down : (why : Refusal) → GetActs pm (Err why) pm
   took-idle : {q : EvcPm} (s : Slot) → is_idle s ≡ true → Memᴰ s pm.pic → pm.pic_lease.present ≡ false → q.pic_lease ≡ s
-      → Swapped s empty_slot pm.pic q.pic → GetActs pm (Answer.Picture s.buf s.pic.poc) q
+      → Swapped s empty_slot pm.pic q.pic → GetActs pm (Ok (Answer.Picture s.buf s.pic.poc)) q
   made-new : {q : EvcPm} (b : ℕ) → (Memᴰ b (held_buffers pm) → ⊥) → pm.pic_lease.present ≡ false → q.pic_lease ≡ occupied_by new_pic b
-      → q.pic ≡ pm.pic → GetActs pm (Answer.Picture b 0) q
+      → q.pic ≡ pm.pic → GetActs pm (Ok (Answer.Picture b 0)) q
 
 pub get-acts : (pm : EvcPm) → length pm.pic ≡ slots → GetActs pm (get pm).answer (get pm).pm
 get-acts pm size = pick (get-laws.gets pm)
@@ -88,14 +90,14 @@ abbrev pub returns : List EvcRefP → PutCall → EvcPm → Content
 returns refp c x =
     record { buf = x.pic_lease.buf; poc = c.poc; layer = c.temporal_id; numbers = list_numbers x.num_refp_0 refp x.pic_lease.pic }
 
-pub data PutActs (pm : EvcPm) (refp : List EvcRefP) (c : PutCall) : Answer → EvcPm → Type 0 where
-  turned_down : (why : Refusal) → PutActs pm refp c (Answer.Refused why) pm
-  marked-only : {q : EvcPm} → c.has_pic ≡ false → q.pic_lease ≡ pm.pic_lease → SameSlots pm.pic q.pic → PutActs pm refp c Answer.Done q
+pub data PutActs (pm : EvcPm) (refp : List EvcRefP) (c : PutCall) : Result Answer Refusal → EvcPm → Type 0 where
+  turned_down : (why : Refusal) → PutActs pm refp c (Err why) pm
+  marked-only : {q : EvcPm} → c.has_pic ≡ false → q.pic_lease ≡ pm.pic_lease → SameSlots pm.pic q.pic → PutActs pm refp c (Ok Answer.Done) q
   stored : {q : EvcPm} {b : ℕ} (old new : Slot) → c.has_pic ≡ true → pm.pic_lease.present ≡ true → q.pic_lease ≡ empty_slot → old.present ≡ false
       → new.present ≡ true
       → content_of new ≡ returns refp c pm
       → new.pic.need_for_out ≡ c.need_for_output
-      → Swapped old new pm.pic q.pic → PutActs pm refp c (Answer.Picture b c.poc) q
+      → Swapped old new pm.pic q.pic → PutActs pm refp c (Ok (Answer.Picture b c.poc)) q
 
 pub put-acts : (pm : EvcPm) (refp : List EvcRefP) (c : PutCall) → length pm.pic ≡ slots → PutActs pm refp c (put pm refp c).answer (put pm refp c).pm
 put-acts pm refp c size = pick (put-laws.puts pm refp c)
@@ -122,10 +124,10 @@ put-acts pm refp c size = pick (put-laws.puts pm refp c)
 
 -- ---- out
 
-pub data OutActs (pm : EvcPm) : Answer → EvcPm → Type 0 where
-  handed-none : {a : Answer} → is_done (reply_of 4 a) ≡ false → OutActs pm a pm
+pub data OutActs (pm : EvcPm) : Result Answer Refusal → EvcPm → Type 0 where
+  handed-none : {a : Result Answer Refusal} → is_done (reply_of 4 a) ≡ false → OutActs pm a pm
   handed : {q : EvcPm} (s : Slot) → is_wanted s ≡ true → q.pic_lease ≡ pm.pic_lease → Swapped s (handed_over s) pm.pic q.pic
-      → OutActs pm (Answer.Picture s.buf s.pic.poc) q
+      → OutActs pm (Ok (Answer.Picture s.buf s.pic.poc)) q
 
 pub out-acts : (pm : EvcPm) → length pm.pic ≡ slots → OutActs pm (out pm).answer (out pm).pm
 out-acts pm size = pick (out-laws.outs pm)
@@ -143,9 +145,9 @@ out-acts pm size = pick (out-laws.outs pm)
 
 -- ---- init
 
-pub data InitActs (pm : EvcPm) : Answer → EvcPm → Type 0 where
-  turned_down : (why : Refusal) → InitActs pm (Answer.Refused why) pm
-  dropped : {q : EvcPm} → q.pic_lease ≡ empty_slot → q.pic ≡ pm.pic → InitActs pm Answer.Done q
+pub data InitActs (pm : EvcPm) : Result Answer Refusal → EvcPm → Type 0 where
+  turned_down : (why : Refusal) → InitActs pm (Err why) pm
+  dropped : {q : EvcPm} → q.pic_lease ≡ empty_slot → q.pic ≡ pm.pic → InitActs pm (Ok Answer.Done) q
 
 pub init-acts : (pm : EvcPm) (size refs : ℕ) → InitActs pm (init pm size refs).answer (init pm size refs).pm
 init-acts pm size refs = pick (init-laws.inits pm size refs)

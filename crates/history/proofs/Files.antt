@@ -1,6 +1,6 @@
 -- The claims on whole runs: line by line, what is put and wanted goes to the slots that wait, and what is handed over comes from them.
 -- Assumes nothing.
-use Rattle.std.specs.Prelude.{Option, Some, None}
+use Rattle.std.specs.Prelude.{Option, Some, None, Result}
 use Prim.Native.Nat.{ℕ, ◌+◌}
 use mathlib.Core.Path.{◌≡◌, refl, ap}
 use mathlib.Core.Bool.{Bool, true, false, not, ◌&&◌}
@@ -12,7 +12,7 @@ use mir.Val.{bool_byte}
 use Rattle.seq.specs.Lists.{count_if, select}
 use Rattle.seq.proofs.Tests.{count-append, count-one}
 use Rattle.seq.proofs.Distinct.{count-select-map, fewer-distinct}
-use Rattle.def.specs.declared.{Slot.Slot, EvcPm.EvcPm, Answer.Answer}
+use Rattle.def.specs.declared.{Slot.Slot, EvcPm.EvcPm, Answer.Answer, Refusal.Refusal}
 use Rattle.def.specs.State.{is_wanted, is_idle, handed_over}
 use Rattle.line.specs.declared.{Call.Call, Reply.Reply}
 use Rattle.line.specs.{Calls.read_line, Answers.answer_line, Answers.reply_of}
@@ -76,16 +76,16 @@ module _ (n : ℕ) where
   abbrev Flows : List Slot → List Slot → Option Call → Reply → Type 0
   Flows xs ys l r = count_if (eqb n) (put_number l r) + count_if waits xs ≡ count_if (eqb n) (out_number l r) + count_if waits ys
 
-  init-flows : (size refs : ℕ) {pm q : EvcPm} {a : Answer} → InitActs pm a q → Flows pm.pic q.pic (Some (Call.Init size refs)) (reply_of 1 a)
+  init-flows : (size refs : ℕ) {pm q : EvcPm} {a : Result Answer Refusal} → InitActs pm a q → Flows pm.pic q.pic (Some (Call.Init size refs)) (reply_of 1 a)
   init-flows size refs (acts.turned_down why) = refl
   init-flows size refs (acts.dropped l s) = rw s
 
-  get-flows : {pm q : EvcPm} {a : Answer} → GetActs pm a q → Flows pm.pic q.pic (Some Call.GetEmptyPic) (reply_of 2 a)
+  get-flows : {pm q : EvcPm} {a : Result Answer Refusal} → GetActs pm a q → Flows pm.pic q.pic (Some Call.GetEmptyPic) (reply_of 2 a)
   get-flows (acts.turned_down why) = refl
   get-flows (acts.took-idle s idle mem free l swap) = omega (arith, swap waits blind, idle-not s idle)
   get-flows (acts.made-new b new free l s) = rw s
 
-  put-flows : (m : Machine) (flags poc tid gap : ℕ) {q : EvcPm} {a : Answer} → PutActs m.pm m.refp (put_call_of flags poc tid gap) a q
+  put-flows : (m : Machine) (flags poc tid gap : ℕ) {q : EvcPm} {a : Result Answer Refusal} → PutActs m.pm m.refp (put_call_of flags poc tid gap) a q
       → Flows m.pm.pic q.pic (Some (Call.PutPic flags poc tid gap)) (reply_of 3 a)
   put-flows m flags poc tid gap (acts.turned_down why) = rw (refused-status why) refl
   put-flows m flags poc tid gap (acts.marked-only bare l same) = rw bare (omega (arith, same waits blind))
@@ -95,7 +95,7 @@ module _ (n : ℕ) where
       now : bool_byte (waits new) ≡ bool_byte (flag flags 2 && eqb n poc)
       now = rw (here, wanted, ap (λ (x : Content). x.poc) is)
 
-  out-flows : {pm q : EvcPm} {a : Answer} → OutActs pm a q → Flows pm.pic q.pic (Some Call.OutPic) (reply_of 4 a)
+  out-flows : {pm q : EvcPm} {a : Result Answer Refusal} → OutActs pm a q → Flows pm.pic q.pic (Some Call.OutPic) (reply_of 4 a)
   out-flows (acts.handed-none t) = rw t
   out-flows (acts.handed s wanted l swap) =
       omega (arith, none, if-so true s.pic.poc, handed-not s, ap bool_byte (wanted-waits s wanted), swap waits blind)

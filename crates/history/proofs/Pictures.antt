@@ -1,5 +1,6 @@
 -- The claims on held pictures: call by call from what the calls do to slots and lease, each test of contents counted.
 -- Assumes nothing.
+use Rattle.std.specs.Prelude.{Result}
 use Prim.Native.Nat.{ℕ, ◌+◌}
 use mathlib.Core.Path.{◌≡◌, refl, sym, ap, ◌∙◌}
 use mathlib.Core.Bool.{Bool, false, ◌&&◌}
@@ -13,7 +14,7 @@ use Rattle.seq.proofs.Tests.{and_left, count-append, mem-any, not-any, count-one
 use Rattle.seq.proofs.Orders.{count-last}
 use Rattle.seq.proofs.Maps.{map-count}
 use Rattle.seq.proofs.Members.{select-mem}
-use Rattle.def.specs.declared.{Slot.Slot, EvcPm.EvcPm, Answer.Answer}
+use Rattle.def.specs.declared.{Slot.Slot, EvcPm.EvcPm, Answer.Answer, Refusal.Refusal}
 use Rattle.def.specs.State.{new_pic, occupied_by, is_present, buffer_of}
 use Rattle.whole.specs.Whole.{leases, places, held_buffers}
 use Rattle.line.specs.declared.{Call.Call}
@@ -81,14 +82,14 @@ module _ (m : Machine) where
   abbrev lease : Slot
   lease = m.pm.pic_lease
 
-  init-pictures : (size refs : ℕ) {a : Answer} {q : EvcPm} → InitActs m.pm a q
+  init-pictures : (size refs : ℕ) {a : Result Answer Refusal} {q : EvcPm} → InitActs m.pm a q
       → Exchanged before (exchange m (Call.Init size refs) (reply_of 1 a)) (held_contents q)
   init-pictures size refs (acts.turned_down why) = rw (refused-status why) (λ p. refl)
   init-pictures size refs (acts.dropped {q = q} l s) = λ p.
       balanced p m.pm q (drops_lease m)
       (omega (arith, none p, lease-passing p m.pm, ap (count_if (holding p)) s, same-slot p l))
 
-  get-pictures : {a : Answer} {q : EvcPm} → GetActs m.pm a q → Exchanged before (exchange m Call.GetEmptyPic (reply_of 2 a)) (held_contents q)
+  get-pictures : {a : Result Answer Refusal} {q : EvcPm} → GetActs m.pm a q → Exchanged before (exchange m Call.GetEmptyPic (reply_of 2 a)) (held_contents q)
   get-pictures (acts.turned_down why) = rw (refused-status why) (λ p. refl)
   get-pictures (acts.took-idle {q = q} s idle mem free l swap) =
       let present = select-mem is_present (places m.pm) (Memᴰ.append_left (leases m.pm) mem) (and_left s.present _ idle) in
@@ -99,7 +100,7 @@ module _ (m : Machine) where
       (λ p. balanced p m.pm q (makes b)
       (omega (arith, none p, one p (content_of (occupied_by new_pic b)), absent p lease free, same-slot p l, ap (count_if (holding p)) s)))
 
-  put-pictures : (flags poc tid gap : ℕ) {a : Answer} {q : EvcPm} → PutActs m.pm m.refp (put_call_of flags poc tid gap) a q
+  put-pictures : (flags poc tid gap : ℕ) {a : Result Answer Refusal} {q : EvcPm} → PutActs m.pm m.refp (put_call_of flags poc tid gap) a q
       → Exchanged before (exchange m (Call.PutPic flags poc tid gap) (reply_of 3 a)) (held_contents q)
   put-pictures flags poc tid gap (acts.turned_down why) = rw (refused-status why) (λ p. refl)
   put-pictures flags poc tid gap (acts.marked-only {q = q} bare l same) =
@@ -119,7 +120,7 @@ module _ (m : Machine) where
       there : (p : Content → Bool) → bool_byte (holding p new) ≡ bool_byte (p (returned m (put_call_of flags poc tid gap) lease))
       there p = rw here (ap (λ (x : Content). bool_byte (p x)) is)
 
-  out-pictures : {a : Answer} {q : EvcPm} → OutActs m.pm a q → Exchanged before nothing (held_contents q)
+  out-pictures : {a : Result Answer Refusal} {q : EvcPm} → OutActs m.pm a q → Exchanged before nothing (held_contents q)
   out-pictures (acts.handed-none t) = λ p. refl
   out-pictures (acts.handed {q = q} s wanted l swap) = λ p. balanced p m.pm q nothing (omega (arith, same-slot p l, swap (holding p) (blind p)))
 

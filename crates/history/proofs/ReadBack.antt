@@ -14,7 +14,8 @@ use Rattle.seq.proofs.Tests.{and_left}
 use Rattle.seq.proofs.Walks.{lowest-passes, any_found}
 use Rattle.seq.proofs.Members.{mem-at, select-mem}
 use Rattle.def.specs.declared.{PocVal.PocVal, Refusal.Refusal, Slot.Slot, EvcPm.EvcPm, EvcPoc.EvcPoc, EvcRefP.EvcRefP, PutCall.PutCall, RefpCall.RefpCall}
-use Rattle.def.specs.declared.{PmResult.PmResult, RefpResult.RefpResult, Answer.Answer}
+use Rattle.def.specs.declared.{RefpResult.RefpResult, Answer.Answer}
+use Rattle.def.specs.Results.{PmResult}
 use Rattle.def.specs.State.{slots, list_places, no_slot, is_idle, with_counts}
 use Rattle.def.proofs.Refusals.{refusals-in-use}
 use Rattle.def.proofs.WordLaws.{complement-fits}
@@ -51,28 +52,28 @@ use Rattle.history.proofs.Derived.{Fits, derived-fits}
 
 -- ---- what an answer shows
 
-abbrev Shows : Answer → Type 0
-Shows Answer.Done = Unit {0}
-Shows (Answer.Picture buf poc) = (buf < 256) × (poc < 2 ^ 32)
-Shows Answer.NotYet = Unit {0}
-Shows Answer.NoMore = Unit {0}
-Shows (Answer.Counts forward backward) = (forward ≤ list_places) × (backward ≤ list_places)
-Shows (Answer.Refused why) = Unit {0}
+abbrev Shows : Result Answer Refusal → Type 0
+Shows (Ok Answer.Done) = Unit {0}
+Shows (Ok (Answer.Picture buf poc)) = (buf < 256) × (poc < 2 ^ 32)
+Shows (Ok Answer.NotYet) = Unit {0}
+Shows (Ok Answer.NoMore) = Unit {0}
+Shows (Ok (Answer.Counts forward backward)) = (forward ≤ list_places) × (backward ≤ list_places)
+Shows (Err why) = Unit {0}
 
-reply-fits : (call : ℕ) → call < 256 → (a : Answer) → Shows a → ReplyFits (reply_of call a)
-reply-fits call h Answer.Done s = record { call = h; status = omega arith; buf = omega arith; value = omega arith }
-reply-fits call h (Answer.Picture buf poc) s = record { call = h; status = omega arith; buf = s.0; value = s.1 }
-reply-fits call h Answer.NotYet s = record { call = h; status = omega arith; buf = omega arith; value = omega arith }
-reply-fits call h Answer.NoMore s = record { call = h; status = omega arith; buf = omega arith; value = omega arith }
-reply-fits call h (Answer.Counts forward backward) s =
+reply-fits : (call : ℕ) → call < 256 → (a : Result Answer Refusal) → Shows a → ReplyFits (reply_of call a)
+reply-fits call h (Ok Answer.Done) s = record { call = h; status = omega arith; buf = omega arith; value = omega arith }
+reply-fits call h (Ok (Answer.Picture buf poc)) s = record { call = h; status = omega arith; buf = s.0; value = s.1 }
+reply-fits call h (Ok Answer.NotYet) s = record { call = h; status = omega arith; buf = omega arith; value = omega arith }
+reply-fits call h (Ok Answer.NoMore) s = record { call = h; status = omega arith; buf = omega arith; value = omega arith }
+reply-fits call h (Ok (Answer.Counts forward backward)) s =
     record { call = h; status = omega arith; buf = omega arith; value = omega (arith, s.0, s.1) }
-reply-fits call h (Answer.Refused why) s =
+reply-fits call h (Err why) s =
     record { call = h; status = omega (arith, (refusals-in-use why).1); buf = omega arith; value = omega arith }
 
 -- ---- each call's answer on a whole state
 
 module _ (pm : EvcPm) (w : whole pm ≡ true) where
-  held-shows : (s : Slot) → Memᴰ s (places pm) → s.present ≡ true → Shows (shown s)
+  held-shows : (s : Slot) → Memᴰ s (places pm) → s.present ≡ true → Shows (Ok (shown s))
   held-shows s m here =
       let v = whole-rules pm w in
       let b = v.buffers_below s.buf (Memᴰ.map buffer_of (select-mem is_present (places pm) m here)) in

@@ -1,8 +1,8 @@
 -- `copy_image`: what it gives, and the image as it leaves it.
 -- Assumes nothing.
-use Rattle.std.specs.Prelude.{ℕ, ◌≡◌, Bool, true, cond, ◌&&◌, List, eqb, length}
+use Rattle.std.specs.Prelude.{ℕ, ◌≡◌, Bool, true, cond, ◌&&◌, List, eqb, length, Result}
 use Rattle.def.specs.Refusals.{NumberInUse}
-use Rattle.def.specs.declared.Answer.{Answer}
+use Rattle.def.specs.declared.{Answer.Answer, Refusal.Refusal}
 use Rattle.def.specs.declared.EvcRefP.{EvcRefP}
 use Rattle.def.specs.declared.CopyResult.{CopyResult}
 use Rattle.line.specs.Answers.{reply_of}
@@ -20,7 +20,7 @@ abbrev pub copy_into : List ℕ → ℕ → ℕ → List ℕ → CopyResult
 copy_into image cnt lidx entry = copy (refp_of image) cnt lidx (refp_at entry 0)
 
 -- An answer's status, as an answer line would show it: 0, or the refusal's number.
-abbrev pub status_of : Answer → ℕ
+abbrev pub status_of : Result Answer Refusal → ℕ
 status_of a = (reply_of 0 a).status
 
 abbrev pub with_lists : Machine → List EvcRefP → Machine

@@ -2,12 +2,13 @@
 -- The list numbers of a picture stand in the row of its buffer number and never move. Here: which slot, which list entry and which state
 -- the arrays stand for. Any number is read as a key, so a state that is not whole can be said too.
 -- Assumes nothing.
-use Rattle.std.specs.Prelude.{ℕ, ◌+◌, ◌-◌, ◌*◌, ◌/◌, ◌%◌, ◌≡◌, Bool, cond, not, ◌&&◌, List, map, eqb, length, get_or, take, drop, replicate}
+use Rattle.std.specs.Prelude.{ℕ, ◌+◌, ◌-◌, ◌*◌, ◌/◌, ◌%◌, ◌≡◌, Bool, cond, not, ◌&&◌, List, map, eqb, length, get_or, take, drop, replicate, Result}
 use mir.Val.{bool_byte}
 use Rattle.seq.specs.Lists.{select, entries}
 use Rattle.def.specs.State.{slots, list_places}
-use Rattle.def.specs.declared.{Answer.Answer, Slot.Slot, EvcPm.EvcPm, EvcRefP.EvcRefP, PmResult.PmResult, RefpResult.RefpResult}
-use Rattle.keys.specs.declared.{Rest.Rest, Called.Called}
+use Rattle.def.specs.declared.{Answer.Answer, Refusal.Refusal, Slot.Slot, EvcPm.EvcPm, EvcRefP.EvcRefP, RefpResult.RefpResult}
+use Rattle.def.specs.Results.{PmResult}
+use Rattle.keys.specs.declared.{Rest.Rest}
 
 -- ---- a key
 
@@ -133,11 +134,16 @@ pub record Sized (keys rows : List ℕ) : Type 0 where
   pub rows_long : length rows ≡ rows_length
 
 -- A call on the state comes to what its definition says of the state that the arrays stood for; the lists are as they were.
-pub record Comes (answer : Answer) (keys rows : List ℕ) (rest : Rest) (lists : List EvcRefP) (wanted : PmResult) : Type 0 where
+pub record Comes (answer : Result Answer Refusal) (keys rows : List ℕ) (rest : Rest) (lists : List EvcRefP) (wanted : PmResult) : Type 0 where
   pub answers : answer ≡ wanted.answer
   pub stands_for : stands keys rows rest ≡ wanted.pm
   pub lists_stay : lists_in rows ≡ lists
   pub still_sized : Sized keys rows
+
+-- A call's answer, or why it is turned down, with the rest after it.
+pub record Called : Type 0 where
+  pub answer : Result Answer Refusal
+  pub rest : Rest
 
 -- A call on state and lists, likewise.
 pub record ComesLists (r : Called) (keys rows : List ℕ) (wanted : RefpResult) : Type 0 where

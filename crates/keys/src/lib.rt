@@ -8,7 +8,7 @@
 pub mod key;
 pub mod row;
 
-use def::{Answer, MAX_NUM_REF_PICS, MAX_PB_SIZE, REFP_PLACES};
+use def::{MAX_NUM_REF_PICS, MAX_PB_SIZE, REFP_PLACES};
 
 // Slots of the store.
 pub const SLOTS: usize = MAX_PB_SIZE;
@@ -42,11 +42,4 @@ pub struct Rest {
     pub num_refp_1: u8,
     pub poc_next_output: u32,
     pub poc_increase: u8,
-}
-
-// The answer to a call, with the rest after it.
-#[derive(Clone, Copy)]
-pub struct Called {
-    pub answer: Answer,
-    pub rest: Rest,
 }

@@ -1,8 +1,8 @@
 -- Answer lines: an answer is the call byte, the status, the buffer number and four bytes.
 -- Assumes nothing.
-use Rattle.std.specs.Prelude.{ℕ, ◌+◌, ◌*◌, cond, List, [], ◌∷◌, ◌++◌, eqb, length, Option, Some, None}
-use Rattle.def.specs.declared.Answer.{Answer}
-use Rattle.def.specs.declared.Answer.TheVariants.{Done, Picture, NotYet, NoMore, Counts, Refused}
+use Rattle.std.specs.Prelude.{ℕ, ◌+◌, ◌*◌, cond, List, [], ◌∷◌, ◌++◌, eqb, length, Option, Some, None, Result, Ok, Err}
+use Rattle.def.specs.declared.{Answer.Answer, Refusal.Refusal}
+use Rattle.def.specs.declared.Answer.TheVariants.{Done, Picture, NotYet, NoMore, Counts}
 use Rattle.def.specs.Refusals.{refusal_number}
 use Rattle.line.specs.declared.Reply.{Reply}
 use Rattle.hex_digits.specs.Hex.{digits_of, word_bytes}
@@ -19,13 +19,13 @@ reply call status buf value = record { call = call; status = status; buf = buf; 
 
 -- What a line shows of an answer: its status, which is 0, 64 for not yet, 65 for no more or the refusal's number, and a buffer number and a value
 -- where the answer has them.
-abbrev pub reply_of : ℕ → Answer → Reply
-reply_of call Done = reply call 0 no_buffer 0
-reply_of call (Picture buf poc) = reply call 0 buf poc
-reply_of call NotYet = reply call 64 no_buffer 0
-reply_of call NoMore = reply call 65 no_buffer 0
-reply_of call (Counts forward backward) = reply call 0 no_buffer (forward * 256 + backward)
-reply_of call (Refused why) = reply call (refusal_number why) no_buffer 0
+abbrev pub reply_of : ℕ → Result Answer Refusal → Reply
+reply_of call (Ok Done) = reply call 0 no_buffer 0
+reply_of call (Ok (Picture buf poc)) = reply call 0 buf poc
+reply_of call (Ok NotYet) = reply call 64 no_buffer 0
+reply_of call (Ok NoMore) = reply call 65 no_buffer 0
+reply_of call (Ok (Counts forward backward)) = reply call 0 no_buffer (forward * 256 + backward)
+reply_of call (Err why) = reply call (refusal_number why) no_buffer 0
 
 -- Every bad line answers with call byte 00 and status 18.
 abbrev pub bad_line_reply : Reply

@@ -3,9 +3,10 @@
 #![tactic(auto)]
 
 ghost use Rattle.std.specs.Prelude.{◌≡◌};
+ghost use Rattle.def.specs.Refusals.{number_in_use};
 ghost use Rattle.line.specs.Answers.{no_buffer, reply, reply_of, bad_line_reply};
 
-use def::Answer;
+use def::{Answer, DONE, Refusal};
 
 // Where there is no buffer number the line shows this.
 pub const NO_BUFFER: u8 = 0xff;
@@ -16,12 +17,14 @@ pub const BAD_LINE: u8 = 18;
 // The flags of a put are four bits.
 pub const HIGHEST_FLAGS: u8 = 15;
 
-// What a status is where a call was done and hands over no picture.
+// What a status is where a call was done and hands over no picture. Statuses and call bytes are bytes and no enum, since a reply that is read back
+// may hold any.
 pub const NOT_YET: u8 = 0x40;
 
 pub const NO_MORE: u8 = 0x41;
 
-// The call bytes, of call lines and of answers.
+// The call bytes, of call lines and of answers: the bytes of the lines that the C interface lends. A line's call byte and length together say
+// which call it is, so they stand in slice patterns, in one table that reads lines (`parsing::call_in`) and one that writes them (`write_call`).
 pub const INIT: u8 = 1;
 
 pub const GET_EMPTY_PIC: u8 = 2;
@@ -62,7 +65,7 @@ pub enum Call {
     },
 }
 
-// The fields of an answer line, without its check byte.
+// The fields of an answer line, without its check byte. They keep their bytes: an answer that is read back may hold any.
 #[derive(Clone, Copy)]
 pub struct Reply {
     pub call: u8,
@@ -71,15 +74,24 @@ pub struct Reply {
     pub value: u32,
 }
 
-// The fields of an answer that shows no picture.
-fn without_picture(call: u8, status: u8) -> Reply
-    ensures { result ≡ reply call status no_buffer 0 }
-{
-    Reply {
-        call,
-        status,
-        buf: NO_BUFFER,
-        value: 0,
+impl Reply {
+    // The fields of an answer that shows neither buffer number nor value.
+    pub fn without_picture(call: u8, status: u8) -> Reply
+        ensures { result ≡ reply call status no_buffer 0 }
+    {
+        Reply {
+            call,
+            status,
+            buf: NO_BUFFER,
+            value: 0,
+        }
+    }
+
+    // Whether the call was turned down: its status is the number of a refusal.
+    pub fn is_refused(&self) -> bool
+        ensures { result ≡ number_in_use self.now.status }
+    {
+        Refusal::try_from(self.status).is_ok()
     }
 }
 
@@ -87,40 +99,23 @@ fn without_picture(call: u8, status: u8) -> Reply
 pub fn bad_line_reply() -> Reply
     ensures { result ≡ bad_line_reply }
 {
-    Reply {
-        call: 0,
-        status: BAD_LINE,
-        buf: NO_BUFFER,
-        value: 0,
-    }
-}
-
-// The fields of an answer to a call that was done.
-fn done(call: u8, buf: u8, value: u32) -> Reply
-    ensures { result ≡ reply call 0 buf value }
-{
-    Reply {
-        call,
-        status: 0,
-        buf,
-        value,
-    }
+    Reply::without_picture(0, BAD_LINE)
 }
 
 // A line's fields for an answer of the picture manager.
-pub fn reply_of(call: u8, answer: Answer) -> Reply
+pub fn reply_of(call: u8, answer: Result<Answer, Refusal>) -> Reply
     ensures { result ≡ reply_of call answer }
 {
+    let done = Reply::without_picture(call, DONE);
     match answer {
-        Answer::Done => done(call, NO_BUFFER, 0),
-        Answer::Picture(buf, poc) => done(call, buf, poc),
-        Answer::NotYet => without_picture(call, NOT_YET),
-        Answer::NoMore => without_picture(call, NO_MORE),
-        Answer::Counts(forward, backward) => done(
-            call,
-            NO_BUFFER,
-            forward as u32 * 256 + backward as u32,
-        ),
-        Answer::Refused(why) => without_picture(call, u8::from(why)),
+        Ok(Answer::Done) => done,
+        Ok(Answer::Picture(buf, value)) => Reply { buf, value, ..done },
+        Ok(Answer::NotYet) => Reply::without_picture(call, NOT_YET),
+        Ok(Answer::NoMore) => Reply::without_picture(call, NO_MORE),
+        Ok(Answer::Counts(forward, backward)) => Reply {
+            value: forward as u32 * 256 + backward as u32,
+            ..done
+        },
+        Err(why) => Reply::without_picture(call, u8::from(why)),
     }
 }

@@ -5,8 +5,7 @@ use mathlib.Core.Bool.{true}
 use mathlib.Core.List.{List}
 use Prim.Native.Nat.{ℕ}
 use Rattle.def.specs.declared.{EvcPm.EvcPm, EvcRefP.EvcRefP, RefpCall.RefpCall, RefpResult.RefpResult, Refusal.Refusal}
-use Rattle.keys.specs.declared.{Called.Called}
-use Rattle.keys.specs.Keys.{lists_in, stands, ComesLists}
+use Rattle.keys.specs.Keys.{lists_in, stands, ComesLists, Called}
 use Rattle.whole.specs.Whole.{whole}
 use Rattle.refp.specs.Lists.{lists_refused, lists, lists_whole}
 use Rattle.refp.proofs.ListLaws.{lists-stay-whole}

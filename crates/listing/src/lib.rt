@@ -6,7 +6,7 @@ ghost use Rattle.std.specs.Prelude.{◌≡◌};
 ghost use Rattle.refp.specs.Lists.{lists};
 
 use conversion::together::put_together;
-use def::{Answer, EvcPm, EvcRefP, REFP_PLACES, RefpCall, RefpResult, Refusal};
+use def::{EvcPm, EvcRefP, REFP_PLACES, RefpCall, RefpResult, Refusal};
 use entries::{put_lists, take_lists};
 use entry::opening::open_state;
 use keys::{ROWS, SLOTS};
@@ -20,7 +20,7 @@ pub fn evc_picman_refp_init(pm: EvcPm, refp: [EvcRefP; REFP_PLACES], call: RefpC
     take_lists(refp, &mut rows);
     let Some(mut rest) = open_state(pm, &mut keys, &mut rows) else {
         return RefpResult {
-            answer: Answer::Refused(Refusal::StateNotWhole),
+            answer: Err(Refusal::StateNotWhole),
             pm,
             refp,
         };

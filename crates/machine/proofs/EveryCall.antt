@@ -7,11 +7,12 @@ use mathlib.Core.Path.{◌≡◌, refl, sym, ap, ◌∙◌}
 use mathlib.Core.Bool.{true, true≢false}
 use mathlib.Core.List.{List}
 use lib.ListN.{length, length-set}
-use Rattle.def.specs.declared.{PocVal.PocVal, EvcPm.EvcPm, EvcRefP.EvcRefP, EvcPoc.EvcPoc, PutCall.PutCall, RefpCall.RefpCall, PmResult.PmResult, RefpResult.RefpResult}
+use Rattle.def.specs.declared.{PocVal.PocVal, EvcPm.EvcPm, EvcRefP.EvcRefP, EvcPoc.EvcPoc, PutCall.PutCall, RefpCall.RefpCall, RefpResult.RefpResult}
 use Rattle.def.specs.declared.Answer.{Answer}
-use Rattle.def.specs.declared.Answer.TheVariants.{Done, Picture, NotYet, NoMore, Counts, Refused}
+use Rattle.def.specs.declared.Answer.TheVariants.{Done, Picture, NotYet, NoMore, Counts}
 use Rattle.def.specs.declared.Refusal.{Refusal}
 use Rattle.def.specs.declared.Refusal.TheVariants.{StateNotWhole}
+use Rattle.def.specs.Results.{PmResult}
 use Rattle.def.specs.Refusals.{refusal_number}
 use Rattle.def.proofs.Refusals.{refusals-in-use, numbers-differ}
 use Rattle.def.specs.State.{slots}
@@ -43,13 +44,13 @@ use Rattle.machine.specs.Claims.OfNoLine.{same_number, no_such_place, bad_length
 
 -- ---- a call that is turned down
 
-pub refused-answer : {P : Type 0} (call : ℕ) (a : Answer) → TurnedDown (reply_of call a) → ((why : Refusal) → a ≡ Refused why → P) → P
-refused-answer call Done t f = absurd (omega (arith, t.0))
-refused-answer call (Picture b n) t f = absurd (omega (arith, t.0))
-refused-answer call NotYet t f = absurd (omega (arith, t.1))
-refused-answer call NoMore t f = absurd (omega (arith, t.1))
-refused-answer call (Counts n m) t f = absurd (omega (arith, t.0))
-refused-answer call (Refused why) t f = f why refl
+pub refused-answer : {P : Type 0} (call : ℕ) (a : Result Answer Refusal) → TurnedDown (reply_of call a) → ((why : Refusal) → a ≡ Err why → P) → P
+refused-answer call (Ok Done) t f = absurd (omega (arith, t.0))
+refused-answer call (Ok (Picture b n)) t f = absurd (omega (arith, t.0))
+refused-answer call (Ok NotYet) t f = absurd (omega (arith, t.1))
+refused-answer call (Ok NoMore) t f = absurd (omega (arith, t.1))
+refused-answer call (Ok (Counts n m)) t f = absurd (omega (arith, t.0))
+refused-answer call (Err why) t f = f why refl
 
 pub refused-number : {P : Type 0} (a : Result PocVal Refusal) → TurnedDown (derived_reply 6 a) → ((why : Refusal) → a ≡ Err why → P) → P
 refused-number (Ok n) t f = absurd (omega (arith, t.0))
@@ -132,13 +133,13 @@ new-sound = record { whole_state = new-whole; all_slots = refl }
 -- ---- refusals 7 and 19
 
 -- a status tells the refusal
-refused-by : (why : Refusal) (call : ℕ) (a : Answer) → (reply_of call a).status ≡ refusal_number why → a ≡ Refused why
-refused-by why call Done e = let r = refusals-in-use why in absurd (omega (arith, r.0))
-refused-by why call (Picture b n) e = let r = refusals-in-use why in absurd (omega (arith, r.0))
-refused-by why call NotYet e = let r = refusals-in-use why in absurd (omega (arith, r.1))
-refused-by why call NoMore e = let r = refusals-in-use why in absurd (omega (arith, r.1))
-refused-by why call (Counts n m) e = let r = refusals-in-use why in absurd (omega (arith, r.0))
-refused-by why call (Refused w) e = ap Refused (numbers-differ w why e)
+refused-by : (why : Refusal) (call : ℕ) (a : Result Answer Refusal) → (reply_of call a).status ≡ refusal_number why → a ≡ Err why
+refused-by why call (Ok Done) e = let r = refusals-in-use why in absurd (omega (arith, r.0))
+refused-by why call (Ok (Picture b n)) e = let r = refusals-in-use why in absurd (omega (arith, r.0))
+refused-by why call (Ok NotYet) e = let r = refusals-in-use why in absurd (omega (arith, r.1))
+refused-by why call (Ok NoMore) e = let r = refusals-in-use why in absurd (omega (arith, r.1))
+refused-by why call (Ok (Counts n m)) e = let r = refusals-in-use why in absurd (omega (arith, r.0))
+refused-by why call (Err w) e = ap Err (numbers-differ w why e)
 
 number-refused-by : (why : Refusal) (a : Result PocVal Refusal) → (derived_reply 6 a).status ≡ refusal_number why → a ≡ Err why
 number-refused-by why (Ok n) e = let r = refusals-in-use why in absurd (omega (arith, r.0))

@@ -1,6 +1,6 @@
 -- From what a call of the core comes to, to what it does to the machine that the arrays stand for.
 -- Assumes nothing.
-use Rattle.std.specs.Prelude.{Option}
+use Rattle.std.specs.Prelude.{Option, Result, Ok, Err}
 use mathlib.Core.Path.{◌≡◌, refl, sym, ap, ◌∙◌, subst}
 use mathlib.Core.Bool.{Bool, true, false, cond, not, ◌||◌}
 use mathlib.Core.Bool as Bool
@@ -10,10 +10,10 @@ use native.Mathlib.Omega.{arith}
 use lib.Dec.{eqb}
 use lib.ListN.{get_or, take, drop, length-map, replicate, get_or-replicate}
 use Rattle.seq.specs.Lists.{entries_from, entries}
-use Rattle.def.specs.declared.{EvcPm.EvcPm, EvcRefP.EvcRefP, PutCall.PutCall, RefpCall.RefpCall, PmResult.PmResult, RefpResult.RefpResult, Answer.Answer}
+use Rattle.def.specs.declared.{EvcPm.EvcPm, EvcRefP.EvcRefP, PutCall.PutCall, RefpCall.RefpCall, RefpResult.RefpResult, Answer.Answer, Refusal.Refusal}
 use Rattle.def.specs.State.{slots}
-use Rattle.keys.specs.Keys.{row_length, row_count, head_row, number_row, entry_row, rows_length, row_at, slot_at, entry_at, stands, lists_in, Sized}
-use Rattle.keys.specs.declared.{Called.Called, Rest.Rest}
+use Rattle.keys.specs.Keys.{row_length, row_count, head_row, number_row, entry_row, rows_length, row_at, slot_at, entry_at, stands, lists_in, Sized, Called}
+use Rattle.keys.specs.declared.{Rest.Rest}
 use Rattle.poc.specs.PictureNumber.{derive}
 use Rattle.poc.proofs.Why.{derive-refused}
 use Rattle.picman.specs.OnKeys.{Calls}
@@ -23,8 +23,8 @@ use Rattle.refp.specs.Running.{ListsCame}
 use Rattle.whole.specs.Whole.{whole}
 use Rattle.line.specs.declared.{Call.Call, Reply.Reply}
 use Rattle.line.specs.declared.Call.TheVariants.{Init, GetEmptyPic, PutPic, OutPic, RefpInit, PocDerivation}
-use Rattle.def.specs.declared.Answer.TheVariants.{Refused}
 use Rattle.def.specs.declared.Refusal.TheVariants.{StateNotWhole}
+use Rattle.def.specs.Results.{PmResult}
 use Rattle.line.specs.Answers.{reply_of}
 use Rattle.machine.specs.declared.{Machine.Machine, Scalars.Scalars}
 use Rattle.machine.specs.Step.{new_ref_p, new_lists, new_machine, derived_reply, put_call_of, refp_call_of, stepped, on_state, on_lists, on_record, step, step_line}
@@ -89,13 +89,13 @@ out-on-whole pm w = rw w
 pub put-on-whole : (pm : EvcPm) (refp : List EvcRefP) (c : PutCall) → whole pm ≡ true → put pm refp c ≡ put_whole pm refp c
 put-on-whole pm refp c w = rw w refl
 
-reply-call : (call : ℕ) (a : Answer) → (reply_of call a).call ≡ call
-reply-call call Answer.Done = refl
-reply-call call (Answer.Picture buf poc) = refl
-reply-call call Answer.NotYet = refl
-reply-call call Answer.NoMore = refl
-reply-call call (Answer.Counts forward backward) = refl
-reply-call call (Answer.Refused why) = refl
+reply-call : (call : ℕ) (a : Result Answer Refusal) → (reply_of call a).call ≡ call
+reply-call call (Ok Answer.Done) = refl
+reply-call call (Ok (Answer.Picture buf poc)) = refl
+reply-call call (Ok Answer.NotYet) = refl
+reply-call call (Ok Answer.NoMore) = refl
+reply-call call (Ok (Answer.Counts forward backward)) = refl
+reply-call call (Err why) = refl
 
 -- The scalars with another rest; the record stays.
 abbrev pub with_rest : Scalars → Rest → Scalars
@@ -109,7 +109,7 @@ module _ (keys rows : List ℕ) (s : Scalars) (call : ℕ) where
   rest_stays rest e = rw e refl
 
   -- A call on the state.
-  pub state-makes : {reply : Reply} {answer : Answer} {rest : Rest} {keys' rows' : List ℕ} {x w : PmResult}
+  pub state-makes : {reply : Reply} {answer : Result Answer Refusal} {rest : Rest} {keys' rows' : List ℕ} {x w : PmResult}
       → reply ≡ reply_of call answer → x ≡ w → Calls answer keys rows s.rest keys' rows' rest w
       → Makes reply (with_rest s rest) s keys rows keys' rows' (on_state call m x)
   state-makes {answer = answer} {rest} {keys'} {rows'} {x} e f calls =
@@ -118,7 +118,7 @@ module _ (keys rows : List ℕ) (s : Scalars) (call : ℕ) where
       rw e (record {
         replies = ap (reply_of call) (c.answers ∙ ap (λ (y : PmResult). y.answer) (sym f));
         machine_is = rw (pm-is, c.lists_stay) refl;
-        other_rows = λ b kept no. calls.other_rows b (λ n a. no (sym (ap (λ (y : Answer). (reply_of call y).buf) a)));
+        other_rows = λ b kept no. calls.other_rows b (λ n a. no (sym (ap (λ (y : Result Answer Refusal). (reply_of call y).buf) a)));
         still_sized = c.still_sized;
         refused_leaves = λ t. refused-answer call answer t (λ why a.
             let u = calls.untouched why a in
@@ -181,23 +181,23 @@ ready-room {keys} {rows} {s} call sized e = record { sized = sized; ready = λ r
 
 -- a state that is not whole turns every call that reads it down with 7
 pub not-whole-step : (m : Machine) (call : Call) → reads_state call ≡ true → whole m.pm ≡ false
-    → step m call ≡ stepped (reply_of (call_byte call) (Refused StateNotWhole)) m
+    → step m call ≡ stepped (reply_of (call_byte call) (Err StateNotWhole)) m
 unfolding step init get out put_marked lists
 not-whole-step m (Init size refs) r w = rw w
 not-whole-step m GetEmptyPic r w = rw w
 not-whole-step m (PutPic flags poc tid gap) r w = not-whole-put (put_call_of flags poc tid gap)
   where
-    not-whole-put : (c : PutCall) → on_state 3 m (put m.pm m.refp c) ≡ stepped (reply_of 3 (Refused StateNotWhole)) m
+    not-whole-put : (c : PutCall) → on_state 3 m (put m.pm m.refp c) ≡ stepped (reply_of 3 (Err StateNotWhole)) m
     not-whole-put c = rw w refl
 not-whole-step m OutPic r w = rw w
 not-whole-step m (RefpInit slice poc layer intra limit) r w = not-whole-lists (refp_call_of slice poc layer intra limit)
   where
-    not-whole-lists : (c : RefpCall) → on_lists 5 m (lists m.pm m.refp c) ≡ stepped (reply_of 5 (Refused StateNotWhole)) m
+    not-whole-lists : (c : RefpCall) → on_lists 5 m (lists m.pm m.refp c) ≡ stepped (reply_of 5 (Err StateNotWhole)) m
     not-whole-lists c = rw w
 not-whole-step m (PocDerivation L t) r w = absurd (Bool.false≢true r)
 
 module _ {keys rows : List ℕ} (s : Scalars) (sized : Sized keys rows) where
-  pub refused-makes : (call : Call) → is_ready keys rows s call ≡ false → (reply : Reply) → reply ≡ reply_of (call_byte call) (Refused StateNotWhole)
+  pub refused-makes : (call : Call) → is_ready keys rows s call ≡ false → (reply : Reply) → reply ≡ reply_of (call_byte call) (Err StateNotWhole)
       → Makes reply s s keys rows keys rows (step (machine_in keys rows s) call)
   refused-makes call n reply e = both (reads_state call) refl (whole (stands keys rows s.rest)) refl n
     where

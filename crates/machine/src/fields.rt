@@ -2,8 +2,8 @@
 ghost use Rattle.std.specs.Prelude.{◌≡◌, ◌<◌};
 ghost use Rattle.machine.specs.Step.{flag, put_call_of, refp_call_of, derived_reply};
 
-use def::{PocVal, PutCall, RefpCall, Refusal, SliceType};
-use line::{NO_BUFFER, POC_DERIVATION, Reply};
+use def::{DONE, PocVal, PutCall, RefpCall, Refusal, SliceType};
+use line::{POC_DERIVATION, Reply};
 
 // Whether flags have the bit of a weight.
 fn flag(flags: u8, weight: u8) -> bool
@@ -54,16 +54,9 @@ pub fn derived_reply(answer: Result<PocVal, Refusal>) -> Reply
 {
     match answer {
         Ok(number) => Reply {
-            call: POC_DERIVATION,
-            status: 0,
-            buf: NO_BUFFER,
             value: number.0.cast_unsigned(),
+            ..Reply::without_picture(POC_DERIVATION, DONE)
         },
-        Err(why) => Reply {
-            call: POC_DERIVATION,
-            status: u8::from(why),
-            buf: NO_BUFFER,
-            value: 0,
-        },
+        Err(why) => Reply::without_picture(POC_DERIVATION, u8::from(why)),
     }
 }

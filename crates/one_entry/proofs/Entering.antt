@@ -1,5 +1,6 @@
 -- The copy of one entry, by what fits.
 -- Assumes nothing.
+use Rattle.std.specs.Prelude.{Result, Err}
 use mathlib.Core.Path.{◌≡◌, refl, sym, ap, ◌∙◌, subst}
 use mathlib.Core.Bool.{Bool, true, false, ◌&&◌, true≢false}
 use mathlib.Core.List.{List}
@@ -69,12 +70,12 @@ module _ (rows numbers : List ℕ) (cnt lidx present buf poc : ℕ) where
       by (suc (suc p)) g = absurd (omega arith)
 
   -- a status of 0 is no refusal's
-  not-refused : {answer : Answer} → (reply_of 0 answer).status ≡ 0 → (why : Refusal) → answer ≡ Answer.Refused why → ⊥
+  not-refused : {answer : Result Answer Refusal} → (reply_of 0 answer).status ≡ 0 → (why : Refusal) → answer ≡ Err why → ⊥
   not-refused {answer} z why a =
-      let number : refusal_number why ≡ 0 = sym (ap (λ (x : Answer). (reply_of 0 x).status) a) ∙ z in
+      let number : refusal_number why ≡ 0 = sym (ap (λ (x : Result Answer Refusal). (reply_of 0 x).status) a) ∙ z in
       omega (arith, (refusals-in-use why).0)
 
-  pub placed : {head : ℕ} {got : List ℕ} {answer : Answer} {after : List ℕ} {r : Reply} → fits rows present numbers ≡ true → buf < 256
+  pub placed : {head : ℕ} {got : List ℕ} {answer : Result Answer Refusal} {after : List ℕ} {r : Reply} → fits rows present numbers ≡ true → buf < 256
       → head ≡ 2 * buf + present → got ≡ numbers
       → CopyCame answer rows after (rows_with_entry rows (lidx * list_places + cnt) head poc got) (copy (lists_in rows) cnt lidx (entry_with head poc got))
       → r ≡ reply_of 0 answer

@@ -16,7 +16,7 @@ use Rattle.seq.proofs.Orders.{remove-length}
 use Rattle.seq.proofs.Maps.{map-lowest, map-any, map-remove}
 use Rattle.def.specs.declared.{Answer.Answer, Refusal.Refusal}
 use Rattle.def.specs.State.{slots, highest_poc, no_slot, is_idle, is_present}
-use Rattle.std.specs.Prelude.{Some, None, position}
+use Rattle.std.specs.Prelude.{Some, None, position, Ok, Err}
 use Rattle.store.proofs.Finding.{found-here, none-here}
 use Rattle.keys.specs.declared.Rest.{Rest}
 use Rattle.keys.specs.Keys.{key_present, key_idle, key_buffer, key_buffers, key_number, with_lease, row_length, row_at, slot_at, stands, Sized}
@@ -36,7 +36,7 @@ module _ (keys rows : List ℕ) (rest : Rest) (sized : Sized keys rows) (w : who
   same_place = map-lowest (slot_at rows) is_idle keys
 
   pub on-leased : key_present rest.lease ≡ true
-      → Calls (Answer.Refused Refusal.PictureLeased) keys rows rest keys rows rest (get_whole (stands keys rows rest))
+      → Calls (Err Refusal.PictureLeased) keys rows rest keys rows rest (get_whole (stands keys rows rest))
   on-leased l = calls_by (get-leased (stands keys rows rest) l) (calls-refused Refusal.PictureLeased keys rows rest sized)
 
   module _ (free : key_present rest.lease ≡ false) where
@@ -61,7 +61,7 @@ module _ (keys rows : List ℕ) (rest : Rest) (sized : Sized keys rows) (w : who
 
       pub on-idle : let i = lowest key_idle keys in
           let k = get_or keys i 0 in
-          Calls (Answer.Picture (key_buffer k) (key_number k)) keys rows rest (remove_at 0 i keys) rows (with_lease rest k (rest.cur_pb_size - 1)) (get_whole (stands keys rows rest))
+          Calls (Ok (Answer.Picture (key_buffer k) (key_number k))) keys rows rest (remove_at 0 i keys) rows (with_lease rest k (rest.cur_pb_size - 1)) (get_whole (stands keys rows rest))
       on-idle =
           let i : ℕ = lowest key_idle keys in
           let inside : i < length keys = omega (arith, sized.slots_long) in
@@ -69,7 +69,7 @@ module _ (keys rows : List ℕ) (rest : Rest) (sized : Sized keys rows) (w : who
           let same : get_whole (stands keys rows rest) ≡ reuse (stands keys rows rest) i =
           get-idle (stands keys rows rest) free some ∙ ap (reuse (stands keys rows rest)) same_place in
           calls_by same (calls-picture (λ b no. refl) (record {
-            answers = ap shown (sym at);
+            answers = ap Ok (ap shown (sym at));
             stands_for = rw (map-remove (slot_at rows) 0 i keys, at) refl;
             lists_stay = refl;
             still_sized = record { slots_long = remove-length 0 i keys inside ∙ sized.slots_long; rows_long = sized.rows_long };
@@ -91,10 +91,10 @@ module _ (keys rows : List ℕ) (rest : Rest) (sized : Sized keys rows) (w : who
 
       pub on-found :
           let k = get_or keys i 0 in
-          Calls (Answer.Picture (key_buffer k) (key_number k)) keys rows rest (remove_at 0 i keys) rows (with_lease rest k (rest.cur_pb_size - 1)) (get_whole (stands keys rows rest))
+          Calls (Ok (Answer.Picture (key_buffer k) (key_number k))) keys rows rest (remove_at 0 i keys) rows (with_lease rest k (rest.cur_pb_size - 1)) (get_whole (stands keys rows rest))
       on-found =
           subst (λ (j : ℕ).
-          Calls (Answer.Picture (key_buffer (get_or keys j 0)) (key_number (get_or keys j 0))) keys rows rest (remove_at 0 j keys) rows
+          Calls (Ok (Answer.Picture (key_buffer (get_or keys j 0)) (key_number (get_or keys j 0)))) keys rows rest (remove_at 0 j keys) rows
           (with_lease rest (get_or keys j 0) (rest.cur_pb_size - 1))
           (get_whole (stands keys rows rest)))
           here.0
@@ -112,7 +112,7 @@ module _ (keys rows : List ℕ) (rest : Rest) (sized : Sized keys rows) (w : who
       size = (whole-rules (stands keys rows rest) w).size_matches
 
       pub on-full : rest.max_pb_size ≤ rest.cur_pb_size
-          → Calls (Answer.Refused Refusal.StoreFull) keys rows rest keys rows rest (get_whole (stands keys rows rest))
+          → Calls (Err Refusal.StoreFull) keys rows rest keys rows rest (get_whole (stands keys rows rest))
       on-full h = calls_by (new ∙ new-full (stands keys rows rest) (omega (arith, size))) (calls-refused Refusal.StoreFull keys rows rest sized)
 
       module _ (room : rest.cur_pb_size < rest.max_pb_size) where
@@ -127,7 +127,7 @@ module _ (keys rows : List ℕ) (rest : Rest) (sized : Sized keys rows) (w : who
 
         pub on-new :
             let b = key_free keys in
-            Calls (Answer.Picture b 0) keys rows rest keys (paste rows (row_length * b) (replicate row_length 0) row_length)
+            Calls (Ok (Answer.Picture b 0)) keys rows rest keys (paste rows (row_length * b) (replicate row_length 0) row_length)
             (with_lease rest (b * 8 + 1) rest.cur_pb_size) (get_whole (stands keys rows rest))
         on-new =
             let b : ℕ = key_free keys in

@@ -1,5 +1,6 @@
 -- Init on the rest: it comes to what init_whole says, whatever keys and rows hold.
 -- Assumes nothing.
+use Rattle.std.specs.Prelude.{Ok, Err}
 use mathlib.Core.Path.{◌≡◌, refl}
 use mathlib.Core.Bool.{true, false, ◌||◌}
 use mathlib.Core.List.{List}
@@ -19,9 +20,9 @@ module _ (keys rows : List ℕ) (rest : Rest) (sized : Sized keys rows) (size re
   limited = record rest { lease = 0; max_pb_size = size; max_num_ref_pics = refs; poc_increase = 1 }
 
   pub on-too-big : (ltb slots size || ltb list_places refs) ≡ true
-      → Calls (Answer.Refused Refusal.SizeTooBig) keys rows rest keys rows rest (init_whole (stands keys rows rest) size refs)
+      → Calls (Err Refusal.SizeTooBig) keys rows rest keys rows rest (init_whole (stands keys rows rest) size refs)
   on-too-big t = calls_by (cond-true _ _ t) (calls-refused Refusal.SizeTooBig keys rows rest sized)
 
   pub on-set : (ltb slots size || ltb list_places refs) ≡ false
-      → Calls Answer.Done keys rows rest keys rows limited (init_whole (stands keys rows rest) size refs)
+      → Calls (Ok Answer.Done) keys rows rest keys rows limited (init_whole (stands keys rows rest) size refs)
   on-set t = calls_by (cond-false _ _ t) (calls-done (record { answers = refl; stands_for = refl; lists_stay = refl; still_sized = sized }))

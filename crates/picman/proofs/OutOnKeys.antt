@@ -83,7 +83,7 @@ module _ (keys : List ℕ) (rest : Rest) (long : length keys ≡ slots) where
     sized = record { slots_long = long; rows_long = rows_long }
 
     pub on-due : due < slots
-        → Calls (Answer.Picture (key_buffer (get_or keys due 0)) (key_number (get_or keys due 0))) keys rows rest
+        → Calls (Ok (Answer.Picture (key_buffer (get_or keys due 0)) (key_number (get_or keys due 0)))) keys rows rest
         (set keys due (key_handed_over (get_or keys due 0))) rows (with_output_of (get_or keys due 0) rest)
         (out_whole (stands keys rows rest))
     on-due h =
@@ -93,7 +93,7 @@ module _ (keys : List ℕ) (rest : Rest) (long : length keys ≡ slots) where
         let some : some_due pm ≡ true =
         map-any (slot_at rows) (is_due rest.poc_next_output) keys ∙ found-any (key_due rest.poc_next_output) keys (omega arith) in
         calls_by (out-due pm some ∙ ap (hand_over pm) place) (calls-picture (λ b no. refl) (record {
-          answers = ap shown (sym at);
+          answers = ap Ok (ap shown (sym at));
           stands_for = rw (map-set (slot_at rows) keys due (key_handed_over k), slot-handed-over rows k, at) refl;
           lists_stay = refl;
           still_sized = record { slots_long = length-set keys due (key_handed_over k) ∙ long; rows_long = rows_long };
@@ -104,7 +104,7 @@ module _ (keys : List ℕ) (rest : Rest) (long : length keys ≡ slots) where
       none-due = map-any (slot_at rows) (is_due rest.poc_next_output) keys ∙ lowest-none 0 (key_due rest.poc_next_output) keys (omega arith)
 
       pub on-not-yet : any_of key_wanted keys ≡ true
-          → Calls Answer.NotYet keys rows rest keys rows rest (out_whole (stands keys rows rest))
+          → Calls (Ok Answer.NotYet) keys rows rest keys rows rest (out_whole (stands keys rows rest))
       on-not-yet some =
           calls_by (out-none-due pm none-due) (record {
             comes = record { answers = rw (map-any (slot_at rows) is_wanted keys ∙ some) refl; stands_for = refl; lists_stay = refl; still_sized = sized };
@@ -113,7 +113,7 @@ module _ (keys : List ℕ) (rest : Rest) (long : length keys ≡ slots) where
           })
 
       pub on-no-more : any_of key_wanted keys ≡ false
-          → Calls Answer.NoMore keys rows rest keys rows rest (out_whole (stands keys rows rest))
+          → Calls (Ok Answer.NoMore) keys rows rest keys rows rest (out_whole (stands keys rows rest))
       on-no-more nothing =
           calls_by (out-none-due pm none-due) (record {
             comes = record { answers = rw (map-any (slot_at rows) is_wanted keys ∙ nothing) refl; stands_for = refl; lists_stay = refl; still_sized = sized };
@@ -122,25 +122,25 @@ module _ (keys : List ℕ) (rest : Rest) (long : length keys ≡ slots) where
           })
 
     pub on-found : (i : ℕ) → Ok (Some i) ≡ due_place rest.poc_next_output keys
-        → Calls (Answer.Picture (key_buffer (get_or keys i 0)) (key_number (get_or keys i 0))) keys rows rest
+        → Calls (Ok (Answer.Picture (key_buffer (get_or keys i 0)) (key_number (get_or keys i 0)))) keys rows rest
         (set keys i (key_handed_over (get_or keys i 0))) rows (with_output_of (get_or keys i 0) rest)
         (out_whole (stands keys rows rest))
     on-found i e =
         let f = found-due i e in
         subst (λ (j : ℕ).
-        Calls (Answer.Picture (key_buffer (get_or keys j 0)) (key_number (get_or keys j 0))) keys rows rest
+        Calls (Ok (Answer.Picture (key_buffer (get_or keys j 0)) (key_number (get_or keys j 0)))) keys rows rest
         (set keys j (key_handed_over (get_or keys j 0))) rows (with_output_of (get_or keys j 0) rest)
         (out_whole (stands keys rows rest)))
         f.0
         (on-due (omega (arith, f.0, f.1)))
 
-    pub on-waits : Ok None ≡ due_place rest.poc_next_output keys → Calls Answer.NotYet keys rows rest keys rows rest (out_whole (stands keys rows rest))
+    pub on-waits : Ok None ≡ due_place rest.poc_next_output keys → Calls (Ok Answer.NotYet) keys rows rest keys rows rest (out_whole (stands keys rows rest))
     on-waits e =
         let f = due-waits at (any_of key_wanted keys) e in
         on-not-yet (omega (arith, none-here (key_due rest.poc_next_output) keys f.0)) f.1
 
     pub on-ends : (n : NoMoreOutput) → Err n ≡ due_place rest.poc_next_output keys
-        → Calls Answer.NoMore keys rows rest keys rows rest (out_whole (stands keys rows rest))
+        → Calls (Ok Answer.NoMore) keys rows rest keys rows rest (out_whole (stands keys rows rest))
     on-ends n e =
         let f = due-ends at (any_of key_wanted keys) n e in
         on-no-more (omega (arith, none-here (key_due rest.poc_next_output) keys f.0)) f.1

@@ -16,7 +16,7 @@ use Rattle.seq.proofs.Distinct.{distinct_apart}
 use Rattle.seq.proofs.Members.{select-mem, select-append, map_at}
 use Rattle.seq.proofs.Maps.{map-append, map-set, map-count, map-any, map-highest}
 use Rattle.def.specs.declared.{EvcPm.EvcPm, PutCall.PutCall, Answer.Answer, Refusal.Refusal}
-use Rattle.std.specs.Prelude.{Some, None, Ok, Err}
+use Rattle.std.specs.Prelude.{Some, None, Ok, Err, Result}
 use Rattle.std.specs.Option.{ok_or}
 use Rattle.store.specs.Highest.{highest_place}
 use Rattle.picman.specs.declared.{Shown.Shown}
@@ -144,7 +144,7 @@ module _ (keys rows : List ℕ) (rest : Rest) (sized : Sized keys rows) (w : who
 
   module _ (before : List ℕ) (rest₀ : Rest) (long : length before ≡ slots) where
     pub on-taken : (why : Refusal) → Err why ≡ key_place c.ref_pic rest.cur_num_ref_pics keys
-        → Calls (Answer.Refused why) before rows rest₀ before rows rest₀ (place (stands before rows rest₀) (stands keys rows rest) (lists_in rows) c)
+        → Calls (Err why) before rows rest₀ before rows rest₀ (place (stands before rows rest₀) (stands keys rows rest) (lists_in rows) c)
     on-taken why h =
         let f = found-taken why h in
         rw f.1
@@ -153,7 +153,7 @@ module _ (keys rows : List ℕ) (rest : Rest) (sized : Sized keys rows) (w : who
 
     pub on-placed : (shown : Shown) (keys' rows' : List ℕ) (rest' : Rest) (found : ℕ) → Ok found ≡ key_place c.ref_pic rest.cur_num_ref_pics keys
         → Placed shown keys rows rest c found keys' rows' rest'
-        → Calls (Answer.Picture shown.buffer shown.poc) before rows rest₀ keys' rows' rest'
+        → Calls (Ok (Answer.Picture shown.buffer shown.poc)) before rows rest₀ keys' rows' rest'
         (place (stands before rows rest₀) (stands keys rows rest) (lists_in rows) c)
     on-placed shown keys' rows' rest' found h d =
         let f = found-free found h in
@@ -231,26 +231,26 @@ module _ (keys rows : List ℕ) (rest : Rest) (c : PutCall) (pos : ℕ) (sized :
 
 module _ (keys rows : List ℕ) (rest : Rest) (c : PutCall) (sized : Sized keys rows) where
   pub on-nothing : (keys' : List ℕ) (rest' : Rest) → c.has_pic ≡ false
-      → Comes Answer.Done keys' rows rest' (lists_in rows) (only_marked c (stands keys rows rest))
-      → Calls Answer.Done keys rows rest keys' rows rest' (put_whole (stands keys rows rest) (lists_in rows) c)
+      → Comes (Ok Answer.Done) keys' rows rest' (lists_in rows) (only_marked c (stands keys rows rest))
+      → Calls (Ok Answer.Done) keys rows rest keys' rows rest' (put_whole (stands keys rows rest) (lists_in rows) c)
   on-nothing keys' rest' p d = calls_by (put-none (stands keys rows rest) (remarked c (stands keys rows rest)) (lists_in rows) c p) (calls-done d)
 
   module _ (p : c.has_pic ≡ true) where
     pub on-high : 2147483647 < c.poc
-        → Calls (Answer.Refused Refusal.NumberTooHigh) keys rows rest keys rows rest (put_whole (stands keys rows rest) (lists_in rows) c)
+        → Calls (Err Refusal.NumberTooHigh) keys rows rest keys rows rest (put_whole (stands keys rows rest) (lists_in rows) c)
     on-high t =
         calls_by (put-high (stands keys rows rest) (remarked c (stands keys rows rest)) (lists_in rows) c p t)
         (calls-refused Refusal.NumberTooHigh keys rows rest sized)
 
     module _ (t : c.poc ≤ 2147483647) where
       pub on-unleased : key_present rest.lease ≡ false
-          → Calls (Answer.Refused Refusal.NoLease) keys rows rest keys rows rest (put_whole (stands keys rows rest) (lists_in rows) c)
+          → Calls (Err Refusal.NoLease) keys rows rest keys rows rest (put_whole (stands keys rows rest) (lists_in rows) c)
       on-unleased l =
           calls_by (put-unleased (stands keys rows rest) (remarked c (stands keys rows rest)) (lists_in rows) c p t l)
           (calls-refused Refusal.NoLease keys rows rest sized)
 
       -- The state q that marking made of it is placed.
-      pub on-marked : (answer : Answer) (q : EvcPm) (keys' rows' : List ℕ) (rest' : Rest) → key_present rest.lease ≡ true → q ≡ remarked c (stands keys rows rest)
+      pub on-marked : (answer : Result Answer Refusal) (q : EvcPm) (keys' rows' : List ℕ) (rest' : Rest) → key_present rest.lease ≡ true → q ≡ remarked c (stands keys rows rest)
           → Calls answer keys rows rest keys' rows' rest' (place (stands keys rows rest) q (lists_in rows) c)
           → Calls answer keys rows rest keys' rows' rest' (put_whole (stands keys rows rest) (lists_in rows) c)
       on-marked answer q keys' rows' rest' l e d =

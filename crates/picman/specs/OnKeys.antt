@@ -3,7 +3,8 @@
 use Rattle.std.specs.Prelude.{ℕ, ◌+◌, ◌≤◌, ◌<◌, ◌≡◌, Bool, true, cond, ◌&&◌, ◌||◌, eqb, leb, length, get_or, position, Option, Some, None, Result, Ok, Err}
 use mathlib.Core.List.{List, Memᴰ}
 use Rattle.seq.specs.Lists.{any_of}
-use Rattle.def.specs.declared.{EvcPm.EvcPm, PutCall.PutCall, PmResult.PmResult, Answer.Answer, Refusal.Refusal}
+use Rattle.def.specs.declared.{EvcPm.EvcPm, PutCall.PutCall, Answer.Answer, Refusal.Refusal}
+use Rattle.def.specs.Results.{PmResult}
 use Rattle.keys.specs.declared.{Rest.Rest}
 use Rattle.picman.specs.declared.{Shown.Shown, NoMoreOutput.NoMoreOutput}
 use Rattle.store.specs.Highest.{highest_place}
@@ -19,14 +20,14 @@ pub record Untouched (keys rows : List ℕ) (rest : Rest) (keys' rows' : List �
   pub same_rest : rest' ≡ rest
 
 -- Every row but that of the buffer that the answer shows is as it was, also where no picture holds the buffer.
-abbrev pub RowsButShown : Answer → List ℕ → List ℕ → Type 0
-RowsButShown answer rows rows' = (b : ℕ) → ((n : ℕ) → answer ≡ Answer.Picture b n → ⊥) → row_at rows' b ≡ row_at rows b
+abbrev pub RowsButShown : Result Answer Refusal → List ℕ → List ℕ → Type 0
+RowsButShown answer rows rows' = (b : ℕ) → ((n : ℕ) → answer ≡ Ok (Answer.Picture b n) → ⊥) → row_at rows' b ≡ row_at rows b
 
 -- A call comes to what its definition says of the state that keys, rows and rest stood for, the lists stay, and a call turned down touches nothing.
-pub record Calls (answer : Answer) (keys rows : List ℕ) (rest : Rest) (keys' rows' : List ℕ) (rest' : Rest) (wanted : PmResult) : Type 0 where
+pub record Calls (answer : Result Answer Refusal) (keys rows : List ℕ) (rest : Rest) (keys' rows' : List ℕ) (rest' : Rest) (wanted : PmResult) : Type 0 where
   pub comes : Comes answer keys' rows' rest' (lists_in rows) wanted
   pub other_rows : RowsButShown answer rows rows'
-  pub untouched : (why : Refusal) → answer ≡ Answer.Refused why → Untouched keys rows rest keys' rows' rest'
+  pub untouched : (why : Refusal) → answer ≡ Err why → Untouched keys rows rest keys' rows' rest'
 
 -- A picture as it is shown.
 abbrev pub shown_as : ℕ → ℕ → Shown
@@ -70,7 +71,7 @@ pub record Remarked (c : PutCall) (keys next : List ℕ) (n : ℕ) : Type 0 wher
   pub remarks_long : length next ≡ slots
 
 abbrev pub only_marked : PutCall → EvcPm → PmResult
-only_marked c pm = record { answer = Answer.Done; pm = remarked c pm }
+only_marked c pm = record { answer = Ok Answer.Done; pm = remarked c pm }
 
 -- A reference goes to the slot of the reference count n, if it is empty; any other goes to the highest empty slot.
 abbrev pub key_place : Bool → ℕ → List ℕ → Result ℕ Refusal

@@ -5,34 +5,28 @@ ghost use Rattle.picman.specs.Results.{init_answer, get_answer, put_answer, out_
 use crate::{NoMoreOutput, Shown};
 use def::{Answer, Refusal};
 
-pub fn init_answer(done: Result<(), Refusal>) -> Answer
+pub fn init_answer(done: Result<(), Refusal>) -> Result<Answer, Refusal>
     ensures { result ≡ init_answer done }
 {
-    match done {
-        Ok(()) => Answer::Done,
-        Err(why) => Answer::Refused(why),
-    }
+    done.map(|()| Answer::Done)
 }
 
-pub fn get_answer(leased: Result<Shown, Refusal>) -> Answer
+pub fn get_answer(leased: Result<Shown, Refusal>) -> Result<Answer, Refusal>
     ensures { result ≡ get_answer leased }
 {
-    match leased {
-        Ok(shown) => Answer::Picture(shown.buffer, shown.poc),
-        Err(why) => Answer::Refused(why),
-    }
+    leased.map(|shown| Answer::Picture(shown.buffer, shown.poc))
 }
 
-pub fn put_answer(placed: Result<Option<Shown>, Refusal>) -> Answer
+pub fn put_answer(placed: Result<Option<Shown>, Refusal>) -> Result<Answer, Refusal>
     ensures { result ≡ put_answer placed }
 {
-    match placed {
-        Ok(Some(shown)) => Answer::Picture(shown.buffer, shown.poc),
-        Ok(None) => Answer::Done,
-        Err(why) => Answer::Refused(why),
+    match placed? {
+        Some(shown) => Ok(Answer::Picture(shown.buffer, shown.poc)),
+        None => Ok(Answer::Done),
     }
 }
 
+// Out on a whole state is not turned down.
 pub fn out_answer(handed: Result<Option<Shown>, NoMoreOutput>) -> Answer
     ensures { result ≡ out_answer handed }
 {

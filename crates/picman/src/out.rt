@@ -1,5 +1,5 @@
 // Out: the lowest slot wanted for output whose number is due is handed over.
-ghost use Rattle.std.specs.Prelude.{◌≡◌, List, ℕ, ◌<◌, ◌≤◌, length, get_or, set};
+ghost use Rattle.std.specs.Prelude.{◌≡◌, List, ℕ, ◌<◌, ◌≤◌, length, get_or, set, Ok};
 ghost use Rattle.def.specs.State.{slots, highest_poc};
 ghost use Rattle.keys.specs.Keys.{key_number, key_handed_over, rows_length, stands};
 ghost use Rattle.picman.specs.Out.{out_whole};
@@ -57,7 +57,7 @@ pub fn out(keys: &mut [u64], rest: &mut Rest) -> Result<Option<Shown>, NoMoreOut
     requires { (length keys.old ≡ slots) × NumbersFit keys.old }
     ensures { (rows : List ℕ) → length rows ≡ rows_length
         → let wanted = out_whole (stands keys.old rows rest.old) in
-        Calls (out_answer result) keys.old rows rest.old keys.new rows rest.new wanted }
+        Calls (Ok (out_answer result)) keys.old rows rest.old keys.new rows rest.new wanted }
 {
     let Some(pos) = due_place(keys, rest.poc_next_output)? else {
         return Ok(None);

@@ -1,6 +1,6 @@
 // Put: marking, then the leased picture goes into the store. Marking goes into keys of its own, so that a put that is turned down after it finds
 // the keys as they were; they are made only where the put marks.
-ghost use Rattle.std.specs.Prelude.{◌≡◌, true, List, ℕ, length};
+ghost use Rattle.std.specs.Prelude.{◌≡◌, true, List, ℕ, length, Ok};
 ghost use Rattle.def.specs.declared.Answer.{Answer};
 ghost use Rattle.def.specs.State.{slots};
 ghost use Rattle.keys.specs.Keys.{rows_length, lists_in, stands, Sized, Comes};
@@ -41,7 +41,7 @@ fn put_nothing(keys: &mut [u64], rest: &mut Rest, call: PutCall)
     requires { length keys.old ≡ slots }
     ensures { (rows : List ℕ) → length rows ≡ rows_length
         → let wanted = only_marked call (stands keys.old rows rest.old) in
-        Comes Answer.Done keys.new rows rest.new (lists_in rows) wanted }
+        Comes (Ok Answer.Done) keys.new rows rest.new (lists_in rows) wanted }
 {
     if !marks_anew(call) {
         return;

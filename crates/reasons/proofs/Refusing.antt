@@ -21,7 +21,7 @@ use Rattle.reasons.specs.declared.Reason.{Reason}
 use Rattle.reasons.specs.Reasons.{reason_for, of_slot, if_chosen, why_whole, why}
 use Rattle.reasons.specs.Claims.{WhyRefusal, of_lists, no_picture, WhyRefused, AskedOf}
 
-not-counts : {f b : ℕ} {r : Refusal} → Answer.Counts f b ≡ Answer.Refused r → ⊥
+not-counts : {f b : ℕ} {r : Refusal} → Ok (Answer.Counts f b) ≡ Err r → ⊥
 not-counts e = let z : ◌≡◌ {A = ℕ} 0 1 = cc in omega arith
 
 pub told-refused : {r : Reason} {q : Refusal} → Ok r ≡ Err q → ⊥
@@ -61,7 +61,7 @@ module _ (pm : EvcPm) (c : RefpCall) (slot : ℕ) where
   pub none-for-i : whole pm ≡ true → c.poc ≤ highest_poc → is_i c.slice_type ≡ true → (r : Refusal) → ListsReason pm c r → ⊥
   unfolding lists lists_whole
   none-for-i w h i r k =
-      let e : (lists pm [] c).answer ≡ Answer.Counts pm.num_refp_0 pm.num_refp_1 = rw (w, le-ltb highest_poc c.poc h, i) in
+      let e : (lists pm [] c).answer ≡ Ok (Answer.Counts pm.num_refp_0 pm.num_refp_1) = rw (w, le-ltb highest_poc c.poc h, i) in
       not-counts (sym e ∙ (lists-why pm [] c r).1 k)
 
   none-judged : Asked pm c → (fwd bwd : List Key) → choice c (down pm.pic) ≡ chosen fwd bwd → (r : Refusal) → ListsReason pm c r → ⊥

@@ -44,7 +44,7 @@ NoListExactly = (pm : EvcPm) (c : RefpCall) (slot : ℕ) → (why pm c slot ≡ 
 pub record AskedOf (pm : EvcPm) (refp : List EvcRefP) (c : RefpCall) (slot : ℕ) : Type 0 where
   pub forward : ℕ
   pub backward : ℕ
-  pub accepted : (lists pm refp c).answer ≡ Answer.Counts forward backward
+  pub accepted : (lists pm refp c).answer ≡ Ok (Answer.Counts forward backward)
   pub not_i : is_i c.slice_type ≡ false
   pub occupied : is_present (get_or pm.pic slot no_slot) ≡ true
 

@@ -12,7 +12,7 @@ ghost use Rattle.answering.specs.Answered.{OnSlices};
 ghost use Rattle.recording.specs.Recorded.{Recorded};
 
 use answering::answer_word;
-use def::{EvcPoc, is_refusal_number};
+use def::EvcPoc;
 use derivation::evc_poc_derivation;
 use line::{Reply, bad_line_reply};
 use machine::fields::derived_reply;
@@ -39,12 +39,10 @@ fn derive_record(registers: &mut [u32], log2_sub_gop_length: u8, tid: u8) -> Rep
 {
     let mut poc = poc_of(registers);
     let answer = evc_poc_derivation(log2_sub_gop_length, tid, &mut poc);
-    let reply = derived_reply(answer);
-    if is_refusal_number(reply.status) {
-        return reply;
+    if answer.is_ok() {
+        write_record(registers, poc);
     }
-    write_record(registers, poc);
-    reply
+    derived_reply(answer)
 }
 
 // Derives a picture number. It reads the record alone, and so works where the state is not whole too.

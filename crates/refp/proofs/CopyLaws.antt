@@ -1,4 +1,5 @@
 -- What every copy does, each claim of specs/Claims.antt under its name. Assumes nothing.
+use Rattle.std.specs.Prelude.{Ok, Err}
 use mathlib.Core.Path.{◌≡◌, refl, subst}
 use mathlib.Core.Bool.{Bool, true, false, cond, ◌||◌, or-true}
 use mathlib.Core.List.{List}
@@ -19,8 +20,8 @@ use Rattle.refp.specs.Claims.{CopyReason, no_place, same_number, CopyWhy, CopyRe
 
 -- The three ways in which a copy ends.
 pub data CopyEnd (refp : List EvcRefP) (cnt lidx : ℕ) (src : EvcRefP) : CopyResult → Type 0 where
-  refuses : (why : Refusal) → CopyReason refp cnt lidx src why → CopyEnd refp cnt lidx src (record { answer = Answer.Refused why; refp = refp })
-  copies : CopyEnd refp cnt lidx src (record { answer = Answer.Done; refp = set refp (lidx * list_places + cnt) src })
+  refuses : (why : Refusal) → CopyReason refp cnt lidx src why → CopyEnd refp cnt lidx src (record { answer = Err why; refp = refp })
+  copies : CopyEnd refp cnt lidx src (record { answer = Ok Answer.Done; refp = set refp (lidx * list_places + cnt) src })
 
 module _ (refp : List EvcRefP) (cnt lidx : ℕ) (src : EvcRefP) where
   abbrev same : EvcRefP → Bool
@@ -40,15 +41,15 @@ module _ (refp : List EvcRefP) (cnt lidx : ℕ) (src : EvcRefP) where
   copy-end = pick (ltb 20 cnt) refl (ltb 1 lidx) refl (any_of same first) refl
     where
       pick : (a : Bool) → ltb 20 cnt ≡ a → (b : Bool) → ltb 1 lidx ≡ b → (s : Bool) → any_of same first ≡ s
-          → CopyEnd refp cnt lidx src (cond (a || b) (record { answer = Answer.Refused Refusal.NoSuchPlace; refp = refp })
-          (cond s (record { answer = Answer.Refused Refusal.SameNumber; refp = refp })
-          (record { answer = Answer.Done; refp = set refp (lidx * list_places + cnt) src })))
+          → CopyEnd refp cnt lidx src (cond (a || b) (record { answer = Err Refusal.NoSuchPlace; refp = refp })
+          (cond s (record { answer = Err Refusal.SameNumber; refp = refp })
+          (record { answer = Ok Answer.Done; refp = set refp (lidx * list_places + cnt) src })))
       pick true p b q s e = refuses Refusal.NoSuchPlace (no_place (inl (ltb-true 20 cnt p)))
       pick false p true q s e = refuses Refusal.NoSuchPlace (no_place (inr (ltb-true 1 lidx q)))
       pick false p false q true e = refuses Refusal.SameNumber (one-has-it (ltb-false 20 cnt p) (ltb-false 1 lidx q) e)
       pick false p false q false e = copies
 
-  reason-refuses : {why : Refusal} → CopyReason refp cnt lidx src why → copy refp cnt lidx src ≡ record { answer = Answer.Refused why; refp = refp }
+  reason-refuses : {why : Refusal} → CopyReason refp cnt lidx src why → copy refp cnt lidx src ≡ record { answer = Err why; refp = refp }
   unfolding copy
   reason-refuses (no_place (inl h)) = rw (lt-ltb 20 cnt h)
   reason-refuses (no_place (inr h)) = rw (lt-ltb 1 lidx h, or-true (ltb 20 cnt))
@@ -58,7 +59,7 @@ module _ (refp : List EvcRefP) (cnt lidx : ℕ) (src : EvcRefP) where
 pub copy-why : CopyWhy
 copy-why refp cnt lidx src why = (because (copy-end refp cnt lidx src), λ r. rw (reason-refuses refp cnt lidx src r))
   where
-    because : {r : CopyResult} → CopyEnd refp cnt lidx src r → r.answer ≡ Answer.Refused why → CopyReason refp cnt lidx src why
+    because : {r : CopyResult} → CopyEnd refp cnt lidx src r → r.answer ≡ Err why → CopyReason refp cnt lidx src why
     because (refuses other k) e = let q : other ≡ why = cc in subst (CopyReason refp cnt lidx src) q k
     because copies e = let z : ◌≡◌ {A = ℕ} 0 1 = cc in absurd (omega arith)
 
@@ -68,6 +69,6 @@ copy-refused-unchanged refp cnt lidx src why a = rw (reason-refuses refp cnt lid
 pub copy-writes : CopyWrites
 copy-writes refp cnt lidx src none = pick (copy-end refp cnt lidx src)
   where
-    pick : {r : CopyResult} → CopyEnd refp cnt lidx src r → r ≡ record { answer = Answer.Done; refp = set refp (lidx * list_places + cnt) src }
+    pick : {r : CopyResult} → CopyEnd refp cnt lidx src r → r ≡ record { answer = Ok Answer.Done; refp = set refp (lidx * list_places + cnt) src }
     pick (refuses why k) = absurd (none why k)
     pick copies = refl

@@ -1,5 +1,6 @@
 -- What every list call does, each claim of specs/Claims.antt under its name: the ways in which a call ends, and what follows from them.
 -- Assumes nothing.
+use Rattle.std.specs.Prelude.{Ok, Err}
 use mathlib.Core.Path.{◌≡◌, refl, sym, ◌∙◌, subst}
 use mathlib.Core.Bool.{Bool, true, false, cond, not}
 use mathlib.Core.Bool as Bool
@@ -127,7 +128,7 @@ module _ (pm : EvcPm) (refp : List EvcRefP) (c : RefpCall) where
 pub lists-why : ListsWhy
 lists-why pm refp c why = (because (lists-end pm refp c), λ r. rw (reason-refuses pm refp c r))
   where
-    because : {r : RefpResult} → ListsEnd pm refp c r → r.answer ≡ Answer.Refused why → ListsReason pm c why
+    because : {r : RefpResult} → ListsEnd pm refp c r → r.answer ≡ Err why → ListsReason pm c why
     because (refuses other k) e = let q : other ≡ why = cc in subst (ListsReason pm c) q k
     because (no-list w i) e = let z : ◌≡◌ {A = ℕ} 0 1 = cc in absurd (omega arith)
     because (builds a fwd bwd k) e = let z : ◌≡◌ {A = ℕ} 0 1 = cc in absurd (omega arith)
@@ -219,7 +220,7 @@ built pm refp c fwd bwd n a =
 pub lists-built : ListsBuilt
 lists-built pm refp c f b n i a = pick (lists-end pm refp c) a
   where
-    pick : {r : RefpResult} → ListsEnd pm refp c r → r.answer ≡ Answer.Counts f b → Built pm refp c r
+    pick : {r : RefpResult} → ListsEnd pm refp c r → r.answer ≡ Ok (Answer.Counts f b) → Built pm refp c r
     pick (refuses why k) e = let z : ◌≡◌ {A = ℕ} 0 1 = cc in absurd (omega arith)
     pick (no-list w t) e = absurd (Bool.true≢false (sym t ∙ i))
     pick (builds w fwd bwd k) e = built pm refp c fwd bwd n k

@@ -1,6 +1,6 @@
 -- What is claimed of every list call and of every copy. Each claim has its proof under its own name: proofs/ListLaws.antt, proofs/CopyLaws.antt.
 -- Assumes nothing.
-use Rattle.std.specs.Prelude.{ℕ, ◌+◌, ◌*◌, ◌≤◌, ◌<◌, ◌≡◌, true, false, ◌⊎◌, ◌↔◌, length, get_or, set}
+use Rattle.std.specs.Prelude.{ℕ, ◌+◌, ◌*◌, ◌≤◌, ◌<◌, ◌≡◌, true, false, ◌⊎◌, ◌↔◌, length, get_or, set, Ok, Err}
 use mathlib.Core.List.{List, [], map, Memᴰ}
 use Rattle.seq.specs.Lists.{count_if, Distinct}
 use Rattle.def.specs.State.{list_places, highest_poc, no_ref_p, is_marked, with_counts}
@@ -33,14 +33,14 @@ pub data ListsReason (pm : EvcPm) (c : RefpCall) : Refusal → Type 0 where
   forward_empty : SomeMarked pm c → forward_of c (down pm.pic) ≡ [] → ListsReason pm c Refusal.ForwardListEmpty
 
 abbrev pub ListsWhy : Type 0
-ListsWhy = (pm : EvcPm) (refp : List EvcRefP) (c : RefpCall) (why : Refusal) → ((lists pm refp c).answer ≡ Answer.Refused why) ↔ ListsReason pm c why
+ListsWhy = (pm : EvcPm) (refp : List EvcRefP) (c : RefpCall) (why : Refusal) → ((lists pm refp c).answer ≡ Err why) ↔ ListsReason pm c why
 
 -- ---- what becomes of the state
 
 -- A call that is turned down changes neither state nor lists, a state that is not whole among them.
 abbrev pub ListsRefusedUnchanged : Type 0
 ListsRefusedUnchanged =
-    (pm : EvcPm) (refp : List EvcRefP) (c : RefpCall) (why : Refusal) → (lists pm refp c).answer ≡ Answer.Refused why
+    (pm : EvcPm) (refp : List EvcRefP) (c : RefpCall) (why : Refusal) → (lists pm refp c).answer ≡ Err why
     → lists pm refp c ≡ lists_refused why pm refp
 
 -- A whole state stays whole.
@@ -70,7 +70,7 @@ pub record Built (pm : EvcPm) (refp : List EvcRefP) (c : RefpCall) (r : RefpResu
   pub of_passes : Accepted c (down pm.pic) fwd bwd
   pub forward_holds : Holds pm c fwd
   pub backward_holds : Holds pm c bwd
-  pub answer_shows : r.answer ≡ Answer.Counts (length fwd) (length bwd)
+  pub answer_shows : r.answer ≡ Ok (Answer.Counts (length fwd) (length bwd))
   pub forward_count : r.pm.num_refp_0 ≡ length fwd
   pub backward_count : r.pm.num_refp_1 ≡ length bwd
   pub forward_entry : (j : ℕ) (d : Key) → j < length fwd → get_or r.refp j no_ref_p ≡ entry_of pm.pic (get_or fwd j d)
@@ -83,7 +83,7 @@ pub record Built (pm : EvcPm) (refp : List EvcRefP) (c : RefpCall) (r : RefpResu
 abbrev pub ListsBuilt : Type 0
 ListsBuilt =
     (pm : EvcPm) (refp : List EvcRefP) (c : RefpCall) (f b : ℕ) → length refp ≡ list_places + list_places → is_i c.slice_type ≡ false
-    → (lists pm refp c).answer ≡ Answer.Counts f b → Built pm refp c (lists pm refp c)
+    → (lists pm refp c).answer ≡ Ok (Answer.Counts f b) → Built pm refp c (lists pm refp c)
 
 -- ---- the copy
 
@@ -96,16 +96,16 @@ pub data CopyReason (refp : List EvcRefP) (cnt lidx : ℕ) (src : EvcRefP) : Ref
 abbrev pub CopyWhy : Type 0
 CopyWhy =
     (refp : List EvcRefP) (cnt lidx : ℕ) (src : EvcRefP) (why : Refusal)
-    → ((copy refp cnt lidx src).answer ≡ Answer.Refused why) ↔ CopyReason refp cnt lidx src why
+    → ((copy refp cnt lidx src).answer ≡ Err why) ↔ CopyReason refp cnt lidx src why
 
 -- A copy that is turned down leaves the lists.
 abbrev pub CopyRefusedUnchanged : Type 0
 CopyRefusedUnchanged =
     (refp : List EvcRefP) (cnt lidx : ℕ) (src : EvcRefP) (why : Refusal)
-    → (copy refp cnt lidx src).answer ≡ Answer.Refused why → (copy refp cnt lidx src).refp ≡ refp
+    → (copy refp cnt lidx src).answer ≡ Err why → (copy refp cnt lidx src).refp ≡ refp
 
 -- Any other writes the entry as it is, and no other entry.
 abbrev pub CopyWrites : Type 0
 CopyWrites =
     (refp : List EvcRefP) (cnt lidx : ℕ) (src : EvcRefP) → ((why : Refusal) → CopyReason refp cnt lidx src why → ⊥)
-    → copy refp cnt lidx src ≡ record { answer = Answer.Done; refp = set refp (lidx * list_places + cnt) src }
+    → copy refp cnt lidx src ≡ record { answer = Ok Answer.Done; refp = set refp (lidx * list_places + cnt) src }

@@ -1,6 +1,6 @@
 -- The copy of one entry (`check_copy_refp`): it goes to place `cnt` of one list unless its number stands before that.
 -- Assumes nothing.
-use Rattle.std.specs.Prelude.{ℕ, ◌+◌, ◌*◌, cond, ◌||◌, List, ltb, eqb, set, take, drop}
+use Rattle.std.specs.Prelude.{ℕ, ◌+◌, ◌*◌, cond, ◌||◌, List, ltb, eqb, set, take, drop, Ok, Err}
 use Rattle.seq.specs.Lists.{any_of}
 use Rattle.def.specs.State.{list_places}
 use Rattle.def.specs.declared.{EvcRefP.EvcRefP, CopyResult.CopyResult, Answer.Answer, Refusal.Refusal}
@@ -13,6 +13,6 @@ first_entries refp cnt lidx = take cnt (drop (lidx * list_places) refp)
 unfoldable pub copy : List EvcRefP → ℕ → ℕ → EvcRefP → CopyResult
 unfolding any_of
 copy refp cnt lidx src =
-    cond (ltb 20 cnt || ltb 1 lidx) (record { answer = Answer.Refused Refusal.NoSuchPlace; refp = refp })
-    (cond (any_of (λ e. eqb e.poc src.poc) (first_entries refp cnt lidx)) (record { answer = Answer.Refused Refusal.SameNumber; refp = refp })
-    (record { answer = Answer.Done; refp = set refp (lidx * list_places + cnt) src }))
+    cond (ltb 20 cnt || ltb 1 lidx) (record { answer = Err Refusal.NoSuchPlace; refp = refp })
+    (cond (any_of (λ e. eqb e.poc src.poc) (first_entries refp cnt lidx)) (record { answer = Err Refusal.SameNumber; refp = refp })
+    (record { answer = Ok Answer.Done; refp = set refp (lidx * list_places + cnt) src }))

@@ -1,6 +1,6 @@
 -- The list call (`evc_picman_refp_init`): which pictures the two reference lists of a slice hold, and what else becomes of state and lists.
 -- Assumes nothing.
-use Rattle.std.specs.Prelude.{Bool, true, false, cond, not, List, ◌++◌, map, ltb, length, get_or, take, drop}
+use Rattle.std.specs.Prelude.{Bool, true, false, cond, not, List, ◌++◌, map, ltb, length, get_or, take, drop, Ok, Err}
 use Rattle.def.specs.State.{list_places, highest_poc, no_slot, with_counts}
 use Rattle.def.specs.declared.{Slot.Slot, EvcPm.EvcPm, EvcRefP.EvcRefP, RefpCall.RefpCall, RefpResult.RefpResult, SliceType.SliceType, Answer.Answer, Refusal.Refusal}
 use Rattle.whole.specs.Whole.{whole}
@@ -27,11 +27,11 @@ both_written xs fwd bwd refp = written xs fwd (take list_places refp) ++ written
 
 -- A call that is turned down changes nothing.
 abbrev pub lists_refused : Refusal → EvcPm → List EvcRefP → RefpResult
-lists_refused why pm refp = record { answer = Answer.Refused why; pm = pm; refp = refp }
+lists_refused why pm refp = record { answer = Err why; pm = pm; refp = refp }
 
 -- The answer shows the counts of the state.
 abbrev pub counts_shown : EvcPm → List EvcRefP → RefpResult
-counts_shown pm refp = record { answer = Answer.Counts pm.num_refp_0 pm.num_refp_1; pm = pm; refp = refp }
+counts_shown pm refp = record { answer = Ok (Answer.Counts pm.num_refp_0 pm.num_refp_1); pm = pm; refp = refp }
 
 -- Counts are set at the end.
 abbrev pub lists_with : EvcPm → List EvcRefP → List Key → List Key → RefpResult

@@ -1,12 +1,12 @@
 -- The calls on the running form: what the arrays stand for afterwards, and what is left as it is, number for number.
 -- Assumes nothing.
-use Rattle.std.specs.Prelude.{ℕ, ◌+◌, ◌*◌, ◌/◌, ◌%◌, ◌<◌, ◌≤◌, ◌≡◌, true, eqb, length, get_or, set}
+use Rattle.std.specs.Prelude.{ℕ, ◌+◌, ◌*◌, ◌/◌, ◌%◌, ◌<◌, ◌≤◌, ◌≡◌, true, eqb, length, get_or, set, Result, Err}
 use mathlib.Core.List.{List, map, Memᴰ}
 use Rattle.std.proofs.Math.Seq.{paste}
 use Rattle.def.specs.State.{slots, list_places, highest_poc}
 use Rattle.def.specs.declared.{EvcRefP.EvcRefP, RefpCall.RefpCall, CopyResult.CopyResult, Answer.Answer, Refusal.Refusal}
-use Rattle.keys.specs.declared.{Rest.Rest, Called.Called}
-use Rattle.keys.specs.Keys.{key_present, key_buffer, key_number, row_length, head_row, number_row, entry_row, row_at, rows_length, slot_at, stands, lists_in, Sized, ComesLists}
+use Rattle.keys.specs.declared.{Rest.Rest}
+use Rattle.keys.specs.Keys.{key_present, key_buffer, key_number, row_length, head_row, number_row, entry_row, row_at, rows_length, slot_at, stands, lists_in, Sized, ComesLists, Called}
 use Rattle.ordering.specs.Order.{Key}
 use Rattle.ordering.specs.InNumbers.{keys_in}
 use Rattle.refp.specs.Lists.{entry_of, dropped, is_i, lists_whole}
@@ -64,14 +64,14 @@ pub record Entered (keys list rows after : List ℕ) (from : ℕ) : Type 0 where
 pub record ListsCame (r : Called) (keys rows after : List ℕ) (rest : Rest) (call : RefpCall) : Type 0 where
   pub comes : ComesLists r keys after (lists_whole (stands keys rows rest) (lists_in rows) call)
   pub pictures_stay : PicturesStay rows after
-  pub refused_leaves : (why : Refusal) → r.answer ≡ Answer.Refused why → (after ≡ rows) × (r.rest ≡ rest)
+  pub refused_leaves : (why : Refusal) → r.answer ≡ Err why → (after ≡ rows) × (r.rest ≡ rest)
   pub slice_i_leaves : is_i call.slice_type ≡ true → (after ≡ rows) × (r.rest ≡ rest)
 
 -- A copy comes to its definition; one that is turned down leaves the rows as they are, any other leaves those stored.
-pub record CopyCame (answer : Answer) (rows after stored : List ℕ) (wanted : CopyResult) : Type 0 where
+pub record CopyCame (answer : Result Answer Refusal) (rows after stored : List ℕ) (wanted : CopyResult) : Type 0 where
   pub answers : answer ≡ wanted.answer
   pub lists_are : lists_in after ≡ wanted.refp
-  pub rows_are : ((why : Refusal) → answer ≡ Answer.Refused why → ⊥) → after ≡ stored
+  pub rows_are : ((why : Refusal) → answer ≡ Err why → ⊥) → after ≡ stored
   pub pictures_stay : PicturesStay rows after
   pub rows_long : length after ≡ rows_length
-  pub refused_leaves : (why : Refusal) → answer ≡ Answer.Refused why → after ≡ rows
+  pub refused_leaves : (why : Refusal) → answer ≡ Err why → after ≡ rows

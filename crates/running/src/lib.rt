@@ -10,7 +10,6 @@ ghost use Rattle.registers.specs.Registers.{registers_length};
 ghost use Rattle.running.specs.Slices.{slices, scalars_at, reply_to, CallLeaves, Leaves};
 
 use checking::checked_call;
-use def::is_refusal_number;
 use line::{Call, Reply, bad_line_reply};
 use machine::Scalars;
 use sizing::is_sized;
@@ -34,7 +33,7 @@ fn call_on(keys: &mut [u64], rows: &mut [u32], registers: &mut [u32], call: Call
 {
     let mut scalars = scalars_at(registers);
     let reply = checked_call(keys, rows, &mut scalars, call);
-    if is_refusal_number(reply.status) {
+    if reply.is_refused() {
         return reply;
     }
     registers::store(registers, scalars.rest, scalars.poc);

@@ -1,6 +1,6 @@
 -- What a call leaves of the slices of a machine taken apart is what the definition makes of the machine.
 -- Assumes nothing.
-use Rattle.std.specs.Prelude.{Some}
+use Rattle.std.specs.Prelude.{Some, Err}
 use mathlib.Core.Path.{◌≡◌, refl, sym, ap, ◌∙◌}
 use mathlib.Core.Bool.{Bool, true, false, true≢false}
 use mathlib.Core.List.{List}
@@ -9,7 +9,6 @@ use lib.ListN.{length, length-map}
 use Rattle.def.proofs.Refusals.{refusals-in-use}
 use Rattle.def.specs.State.{slots}
 use Rattle.def.specs.declared.{EvcPm.EvcPm, EvcPoc.EvcPoc}
-use Rattle.def.specs.declared.Answer.TheVariants.{Refused}
 use Rattle.def.specs.declared.Refusal.TheVariants.{StateNotWhole}
 use Rattle.keys.specs.Keys.{slot_at, Sized}
 use Rattle.registers.specs.Registers.{registers_length, rest_of, poc_of}
@@ -102,7 +101,7 @@ module _ {m : Machine} {keys rows : List ℕ} {s : Scalars} (taken : TakenMachin
       was-whole : whole m.pm ≡ true
       was-whole = pick (whole m.pm) refl
         where
-          seven : whole m.pm ≡ false → reply ≡ reply_of (call_byte call) (Refused StateNotWhole)
+          seven : whole m.pm ≡ false → reply ≡ reply_of (call_byte call) (Err StateNotWhole)
           seven f = rw (same-reply, not-whole-step m call e f) refl
 
           pick : (w : Bool) → whole m.pm ≡ w → whole m.pm ≡ true

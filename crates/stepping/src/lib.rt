@@ -5,7 +5,6 @@
 ghost use Rattle.std.specs.Prelude.{◌≡◌};
 ghost use Rattle.machine.specs.Step.{step};
 
-use def::is_refusal_number;
 use keys::{ROWS, SLOTS};
 use line::Call;
 use machine::{Machine, Stepped};
@@ -26,7 +25,7 @@ pub fn step(m: Machine, call: Call) -> Stepped
     let poc = before.poc;
     store(&mut registers, rest, poc);
     let reply = reply_on(&mut keys, &mut rows, &mut registers, Some(call));
-    if is_refusal_number(reply.status) {
+    if reply.is_refused() {
         return Stepped { reply, machine: m };
     }
     let scalars = scalars_at(&registers);

@@ -1,4 +1,5 @@
 -- `adding::copy_refp` meets its contract: the two refusals, and the entry stored in its place. Assumes nothing.
+use Rattle.std.specs.Prelude.{Ok, Err}
 use Prim.Native.Nat.{ℕ, ◌+◌, ◌*◌, ◌≤◌, ◌<◌}
 use mathlib.Core.Logic.{◌⊎◌, inl, inr}
 use mathlib.Core.Path.{◌≡◌, refl, sym, ◌∙◌}
@@ -28,8 +29,8 @@ there : (cnt lidx : ℕ) → cnt ≤ 20 → lidx ≤ 1 → (ltb 20 cnt || ltb 1 
 there cnt lidx h l = rw (le-ltb 20 cnt h, le-ltb 1 lidx l) refl
 
 module _ (rows : List ℕ) (long : length rows ≡ rows_length) where
-  turned-down-came : {stored : List ℕ} (why : Refusal) (r : CopyResult) → r ≡ record { answer = Answer.Refused why; refp = lists_in rows }
-      → CopyCame (Answer.Refused why) rows rows stored r
+  turned-down-came : {stored : List ℕ} (why : Refusal) (r : CopyResult) → r ≡ record { answer = Err why; refp = lists_in rows }
+      → CopyCame (Err why) rows rows stored r
   turned-down-came why r e = record {
     answers = sym (rw e);
     lists_are = sym (rw e);
@@ -40,8 +41,8 @@ module _ (rows : List ℕ) (long : length rows ≡ rows_length) where
   }
 
   copied-came : {after stored : List ℕ} (j : ℕ) (e : EvcRefP) (r : CopyResult) → after ≡ stored → EntryStored rows stored j e
-      → r ≡ record { answer = Answer.Done; refp = set (lists_in rows) j e }
-      → CopyCame Answer.Done rows after stored r
+      → r ≡ record { answer = Ok Answer.Done; refp = set (lists_in rows) j e }
+      → CopyCame (Ok Answer.Done) rows after stored r
   copied-came j e r is s q = rw is (record {
     answers = sym (rw q);
     lists_are = s.lists_are ∙ sym (rw q);
@@ -51,7 +52,7 @@ module _ (rows : List ℕ) (long : length rows ≡ rows_length) where
     refused_leaves = λ why a. absurd (clash a);
   })
     where
-      clash : {why : Refusal} → Answer.Done ≡ Answer.Refused why → ⊥
+      clash : {why : Refusal} → Ok Answer.Done ≡ Err why → ⊥
       clash e = let z : ◌≡◌ {A = ℕ} 0 1 = cc in omega arith
 
 pub returns-then-cnt : goal.returns-then-cnt

@@ -9,7 +9,7 @@ use Rattle.entry.proofs.Calling.{turned-away, still-whole, gives}
 use Rattle.entry.proofs.Defining.{out-defined}
 use Rattle.entry.proofs.out.evc_picman_out_pic.Goals as goal
 
-same_answer : (x : Option Shown) → output_answer (Ok x) ≡ out_answer (Ok x)
+same_answer : (x : Option Shown) → output_answer (Ok x) ≡ Ok (out_answer (Ok x))
 same_answer (Some s) = refl
 same_answer None = refl
 
