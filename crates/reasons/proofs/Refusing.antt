@@ -72,10 +72,10 @@ module _ (pm : EvcPm) (c : RefpCall) (slot : ℕ) where
 
   -- ---- refused
 
-  slot-refused : (told : Reason) {r : Refusal} → ((q : Refusal) → ListsReason pm c q → ⊥) → (b : Bool) → is_present (get_or pm.pic slot no_slot) ≡ b
-      → cond b (Ok told) (Err Refusal.NoSuchPlace) ≡ Err r → WhyRefusal pm c slot r
-  slot-refused told none true b e = absurd (told-refused e)
-  slot-refused told {r = r} none false b e = let q : Refusal.NoSuchPlace ≡ r = cc in subst (WhyRefusal pm c slot) q (no_picture none b)
+  slot-refused : (said : Reason) {r : Refusal} → ((q : Refusal) → ListsReason pm c q → ⊥) → (b : Bool) → is_present (get_or pm.pic slot no_slot) ≡ b
+      → cond b (Ok said) (Err Refusal.NoSuchPlace) ≡ Err r → WhyRefusal pm c slot r
+  slot-refused said none true b e = absurd (told-refused e)
+  slot-refused said {r = r} none false b e = let q : Refusal.NoSuchPlace ≡ r = cc in subst (WhyRefusal pm c slot) q (no_picture none b)
 
   refused_why : {r : Refusal} {a : Result Reason Refusal} → WhyEnd pm c slot a → a ≡ Err r → WhyRefusal pm c slot r
   refused_why {r} (turned-away q k) e = let s : q ≡ r = cc in of_lists (subst (ListsReason pm c) s k)
