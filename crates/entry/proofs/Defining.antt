@@ -9,24 +9,18 @@ use Rattle.keys.specs.declared.{Rest.Rest}
 use Rattle.keys.specs.Keys.{lists_in, stands, Comes}
 use Rattle.picman.specs.Get.{pm_refused, get, get_whole}
 use Rattle.picman.specs.Put.{remarked, put_marked, put, put_whole}
-use Rattle.picman.specs.Out.{out, out_whole}
 use Rattle.picman.proofs.GetKeeps.{get-keeps-whole}
 use Rattle.picman.proofs.PutLaws.{put-safe}
 use Rattle.std.specs.Prelude.{Option, Result}
 use Rattle.entries.specs.Entries.{ListsTaken}
 use Rattle.picman.specs.Init.{init, init_whole}
 use Rattle.picman.proofs.InitLaws.{init-keeps-whole}
-use Rattle.picman.proofs.OutLaws.{out-keeps-whole}
 use Rattle.entry.specs.Opening.{Opens}
 use Rattle.entry.proofs.Calling.{Defined}
 
 pub get-defined : Defined get get_whole
 unfolding get
 get-defined = record { broken = λ pm e. rw e refl; on-whole = λ pm e. rw e refl; keeps = get-keeps-whole }
-
-pub out-defined : Defined out out_whole
-unfolding out
-out-defined = record { broken = λ pm e. rw e refl; on-whole = λ pm e. rw e refl; keeps = out-keeps-whole }
 
 broken-put : (pm : EvcPm) (refp : List EvcRefP) (c : PutCall) → put_marked false pm (remarked c pm) refp c ≡ pm_refused Refusal.StateNotWhole pm
 unfolding put_marked

@@ -15,13 +15,13 @@ use Rattle.seq.proofs.Walks.{lowest-le}
 use Rattle.buffer.specs.Buffer.{newline, is_newline, lines_from, line_end, line_at}
 use Rattle.buffer.proofs.Lines.{first-line}
 use Rattle.hex_digits.specs.Hex.{digits_of, bytes_of, sum8}
-use Rattle.hex_digits.specs.Frame.{body_of, from_line}
+use Rattle.hex_digits.specs.Frame.{body_of}
 use Rattle.framing.proofs.Standing.{framed-end}
 use Rattle.line.specs.declared.Reply.{Reply}
 use Rattle.line.specs.Answers.{reply_bytes, answer_kind, answer_digits, answer_line}
 use Rattle.line.specs.Claims.{ReplyFits}
 use Rattle.line.proofs.Bodies.{answers-lawful, answers-faithful}
-use Rattle.reader.specs.Reading.{read_line_as, answer_at, after_line, until_no_more, reads_from, reads_of}
+use Rattle.reader.specs.Reading.{read_line_as, answer_at, after_line, reads_from, reads_of}
 use Rattle.reader.specs.Claims.{ReadsEveryLine, ReadsFromPlace, AllFit, PrintedIsRead, StaysAtEnd, LongerIsBad, ThenEmptyLine}
 
 pub stays-at-end : StaysAtEnd

@@ -53,15 +53,24 @@ impl<'a> AnswerReader<'a> {
     {
         AnswerReader { lines, at: 0 }
     }
+}
 
-    /// What stands where the reader stands; the reader moves on to the next line.
-    pub fn next_answer(&mut self) -> Option<Result<Reply, BadLine>>
-        ensures { let before = self.old in
-            let after = self.new in
-            (result ≡ answer_at before.lines.now before.at)
-            × (after.lines ≡ before.lines)
-            × (after.at ≡ after_line before.lines.now before.at) }
-    {
+/// What stands where the reader stands; the reader moves on to the next line.
+impl Iterator for AnswerReader<'_> {
+    ghost use Rattle.std.specs.Prelude.{◌≡◌, ◌-◌, length};
+    ghost use Rattle.std.specs.Iterator.{at_most};
+    ghost use Rattle.reader.specs.Reading.{answer_at, after_line};
+
+    type Item = Result<Reply, BadLine>;
+
+    ghost next_gives = { λ before result after.
+        (result ≡ answer_at before.lines.now before.at)
+        × (after.lines ≡ before.lines)
+        × (after.at ≡ after_line before.lines.now before.at) };
+
+    ghost remaining = { λ reader. at_most (length reader.lines.now - reader.at) };
+
+    fn next(&mut self) -> Option<Result<Reply, BadLine>> {
         let read = answer_at(self.lines, self.at);
         self.at = after_line(self.lines, self.at);
         read

@@ -12,4 +12,4 @@ returns-then-is_empty c =
 pub returns : goal.returns
 returns c =
     let some : (length c.args.session.now.partial.items ≡ 0 → ⊥) = search rules in
-    end_line c.args.keys.now c.args.rows.now c.args.session.now c.args.out.now (λ e. some (ap length e)) c.run_piece.ensures
+    end_line c.args.keys.now c.args.rows.now c.args.session.now c.args.out.now (λ e. some (ap length e)) (search rules)
