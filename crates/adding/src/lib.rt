@@ -1,4 +1,4 @@
-// The copy of one entry to a place of one list, on the running form. The entry point by value, of crate `copying`, and `one_entry` call this.
+// The copy of one entry to a place of one list, on the running form. The entry point of crate `copying` and `one_entry` call this.
 #![tactic(auto)]
 
 ghost use Rattle.std.specs.Prelude.{◌≡◌, ◌+◌, ◌*◌, ◌≤◌, eqb, length, take, drop};
@@ -23,7 +23,7 @@ fn number_stands(rows: &[u32], from: usize, n: usize, poc: u32) -> bool
 }
 
 // An entry, given by its parts, goes to place `cnt` of one list unless its number stands among the first `cnt` entries there. `check_copy_refp`
-// of crate `copying` is the same on entries.
+// of crate `copying` is the same on an array of entries.
 pub fn copy_refp(
     rows: &mut [u32],
     cnt: u64,

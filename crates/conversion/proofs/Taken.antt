@@ -17,7 +17,7 @@ use Rattle.seq.proofs.Tests.{and_left, and_both, all_true, all-holds}
 use Rattle.seq.proofs.Members.{mem-unmap, select-mem, holds-tail}
 use Rattle.seq.proofs.Maps.{map-append, map-count, map-select, map-map, fill-turn}
 use Rattle.seq.proofs.Walks.{drop-step}
-use Rattle.def.specs.State.{slots, no_slot, is_present, is_marked, buffer_of}
+use Rattle.def.specs.State.{slots, is_present, is_marked, buffer_of}
 use Rattle.def.specs.declared.{Slot.Slot, EvcPm.EvcPm}
 use Rattle.keys.specs.declared.{Rest.Rest}
 use Rattle.keys.specs.Keys.{rows_length, slot_at, lists_in, stands, Sized}
@@ -221,25 +221,25 @@ pub record Taking (ss : List Slot) (before keys rows : List ℕ) (i : ℕ) : Typ
   pub shaped-so-far : (s : Slot) → Memᴰ s (take i ss) → Shaped s
 
 module _ {ss : List Slot} {before keys : List ℕ} where
-  pub taking-turn : {rows : List ℕ} {i k : ℕ} {after : List ℕ} → length ss ≡ slots → Sized keys rows → i < slots → Taking ss before keys rows i
-      → TakenSlot (get_or ss i no_slot) k rows after
+  pub taking-turn : (d : Slot) {rows : List ℕ} {i k : ℕ} {after : List ℕ} → length ss ≡ slots → Sized keys rows → i < slots → Taking ss before keys rows i
+      → TakenSlot (get_or ss i d) k rows after
       → (i + 1 ≤ slots) × (length ss ≡ slots) × Sized (set keys i k) after × Taking ss before (set keys i k) after (i + 1)
   unfolding rows_of
-  taking-turn {rows} {i} {k} {after} many sized h t a = (
+  taking-turn d {rows} {i} {k} {after} many sized h t a = (
     omega arith,
     many,
     record { slots_long = length-set keys i k ∙ sized.slots_long; rows_long = ap length a.rows_are ∙ with-long s rows sized.rows_long a.shaped },
     record {
-      keys-so-far = rw a.key_is (fill-turn key_for no_slot ss keys i (omega arith) (omega (arith, sized.slots_long)) t.keys-so-far);
-      rows-so-far = rw a.rows_are (rw (drop-step no_slot ss i (omega arith)) at t.rows-so-far);
+      keys-so-far = rw a.key_is (fill-turn key_for d ss keys i (omega arith) (omega (arith, sized.slots_long)) t.keys-so-far);
+      rows-so-far = rw a.rows_are (rw (drop-step d ss i (omega arith)) at t.rows-so-far);
       shaped-so-far = λ u m.
-          ⊎_elim (t.shaped-so-far u) (λ n. let e : u ≡ get_or ss i no_slot = Memᴰ.eq_of_singleton n in rw e a.shaped)
-          (Memᴰ.append_cases (take i ss) (rw (add-one i, take-suc ss i no_slot (omega arith)) at m));
+          ⊎_elim (t.shaped-so-far u) (λ n. let e : u ≡ get_or ss i d = Memᴰ.eq_of_singleton n in rw e a.shaped)
+          (Memᴰ.append_cases (take i ss) (rw (add-one i, take-suc ss i d (omega arith)) at m));
     },
   )
     where
       s : Slot
-      s = get_or ss i no_slot
+      s = get_or ss i d
 
   pub taking-end : {rows : List ℕ} {i : ℕ} → length ss ≡ slots → length keys ≡ slots → Taking ss before keys rows i → slots ≤ i → TakenSlots ss keys before rows
   unfolding rows_of

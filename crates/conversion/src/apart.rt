@@ -6,12 +6,12 @@ use crate::slot::take_slot;
 use def::{EvcPm, Slot};
 use keys::{Rest, SLOTS};
 
-fn take_slots(pic: [Slot; SLOTS], keys: &mut [u64], rows: &mut [u32])
+fn take_slots(pic: &[Slot; SLOTS], keys: &mut [u64], rows: &mut [u32])
     requires { Sized keys.old rows.old }
-    ensures { TakenSlots pic keys.new rows.old rows.new }
+    ensures { TakenSlots pic.now keys.new rows.old rows.new }
 {
-    for i in 0..SLOTS {
-        keys[i] = take_slot(pic[i], rows);
+    for (i, slot) in pic.iter().enumerate() {
+        keys[i] = take_slot(*slot, rows);
     }
 }
 
@@ -20,7 +20,7 @@ pub fn take_apart(pm: EvcPm, keys: &mut [u64], rows: &mut [u32]) -> Rest
     requires { Sized keys.old rows.old }
     ensures { TakenApart pm (lists_in rows.old) keys.new rows.new result }
 {
-    take_slots(pm.pic, keys, rows);
+    take_slots(&pm.pic, keys, rows);
     let lease = take_slot(pm.pic_lease, rows);
     Rest {
         lease,

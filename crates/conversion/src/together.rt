@@ -1,6 +1,6 @@
 // A whole state by value put together from keys, rows and the rest.
-ghost use Rattle.std.specs.Prelude.{◌≡◌, true, map, ◌≤◌, length};
-ghost use Rattle.def.specs.State.{highest_poc};
+ghost use Rattle.std.specs.Prelude.{◌≡◌, true, map, ◌<◌, ◌≤◌, length};
+ghost use Rattle.def.specs.State.{slots, highest_poc};
 ghost use Rattle.keys.specs.Keys.{key_number, rows_length, slot_with, slot_at, stands, Sized};
 ghost use Rattle.whole.specs.Whole.{whole};
 ghost use Rattle.conversion.specs.Fitting.{KeysFit};
@@ -9,6 +9,7 @@ use def::{EvcPic, EvcPm, Slot};
 use keys::key::{buffer_byte, buffer_of, is_present, layer_of, number_of};
 use keys::row::read_row;
 use keys::{ROW, Rest, SLOTS};
+use std::array;
 
 // The slot of a key, with these list numbers.
 fn slot_with(key: u64, list_poc: [u32; ROW]) -> Slot
@@ -42,12 +43,11 @@ fn put_slots(keys: &[u64], rows: &[u32]) -> [Slot; SLOTS]
     requires { Sized keys.now rows.now × KeysFit keys.now }
     ensures { result ≡ map (slot_at rows.now) keys.now }
 {
-    let empty = def::empty_slot();
-    let mut pic = [empty; SLOTS];
-    for i in 0..SLOTS {
-        pic[i] = slot_of(rows, keys[i]);
-    }
-    pic
+    array::from_fn(
+        |i|
+            requires { Sized keys.now rows.now × KeysFit keys.now × (i < slots) }
+        { slot_of(rows, keys[i]) },
+    )
 }
 
 // A whole state by value.

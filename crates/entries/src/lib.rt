@@ -9,33 +9,30 @@ ghost use Rattle.entries.specs.Entries.{places, ListsTaken};
 use def::{EvcRefP, REFP_PLACES};
 use keys::row::{read_row, write_row};
 use keys::{ENTRY_ROW, HEAD_ROW, NUMBER_ROW, ROW};
+use std::array;
 
 // Flag and buffer number of an entry, as one number.
 pub fn head_of(entry: EvcRefP) -> u32
     ensures { result ≡ head_of entry }
 {
-    2 * (entry.buf as u32) + entry.present as u32
+    2 * u32::from(entry.buf) + u32::from(entry.present)
 }
 
 fn take_entry(entry: EvcRefP, j: usize, rows: &mut [u32])
     requires { (length rows.old ≡ rows_length) × (j < places) }
     ensures { EntryStored rows.old rows.new j entry }
 {
-    let list_poc = entry.list_poc;
     rows[ROW * HEAD_ROW + j] = head_of(entry);
     rows[ROW * NUMBER_ROW + j] = entry.poc;
-    write_row(rows, ENTRY_ROW + j, &list_poc);
+    write_row(rows, ENTRY_ROW + j, &entry.list_poc);
 }
 
-pub fn take_lists(refp: [EvcRefP; REFP_PLACES], rows: &mut [u32])
+pub fn take_lists(refp: &[EvcRefP; REFP_PLACES], rows: &mut [u32])
     requires { length rows.old ≡ rows_length }
-    ensures { ListsTaken refp rows.new }
+    ensures { ListsTaken refp.now rows.new }
 {
-    let mut j: usize = 0;
-    while j < REFP_PLACES {
-        let entry = refp[j];
-        take_entry(entry, j, rows);
-        j = j + 1;
+    for (j, entry) in refp.iter().enumerate() {
+        take_entry(*entry, j, rows);
     }
 }
 
@@ -44,13 +41,11 @@ fn entry_of(rows: &[u32], j: usize) -> EvcRefP
     ensures { result ≡ entry_at rows.now j }
 {
     let head = rows[ROW * HEAD_ROW + j];
-    let poc = rows[ROW * NUMBER_ROW + j];
-    let list_poc = read_row(rows, ENTRY_ROW + j);
     EvcRefP {
         present: head % 2 == 1,
         buf: (head / 2 % 256) as u8,
-        poc,
-        list_poc,
+        poc: rows[ROW * NUMBER_ROW + j],
+        list_poc: read_row(rows, ENTRY_ROW + j),
     }
 }
 
@@ -58,13 +53,9 @@ pub fn put_lists(rows: &[u32]) -> [EvcRefP; REFP_PLACES]
     requires { length rows.now ≡ rows_length }
     ensures { result ≡ lists_in rows.now }
 {
-    let first = entry_of(rows, 0);
-    let mut refp = [first; REFP_PLACES];
-    let mut j: usize = 1;
-    while j < REFP_PLACES {
-        let entry = entry_of(rows, j);
-        refp[j] = entry;
-        j = j + 1;
-    }
-    refp
+    array::from_fn(
+        |j|
+            requires { (length rows.now ≡ rows_length) × (j < places) }
+        { entry_of(rows, j) },
+    )
 }

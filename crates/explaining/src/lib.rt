@@ -1,4 +1,4 @@
-// Why a picture is or is not in the forward list of a slice, by value, for crate `image_why`: the state is taken apart, tested and only read. Any
+// Why a picture is or is not in the forward list of a slice, on a state that is lent, for crate `image_why`: the state is taken apart, tested and only read. Any
 // state may come: one that is not whole is turned down.
 #![tactic(auto)]
 
@@ -11,12 +11,12 @@ use judging::why_on;
 use keys::{ROWS, SLOTS};
 use reasons::Reason;
 
-pub fn evc_picman_why(pm: EvcPm, call: RefpCall, slot: u8) -> Result<Reason, Refusal>
-    ensures { result ≡ why pm call slot }
+pub fn evc_picman_why(pm: &EvcPm, call: RefpCall, slot: u8) -> Result<Reason, Refusal>
+    ensures { result ≡ why pm.now call slot }
 {
-    let mut keys = [0u64; SLOTS];
-    let mut rows = [0u32; ROWS];
-    if open_state(pm, &mut keys, &mut rows).is_none() {
+    let mut keys = [0; SLOTS];
+    let mut rows = [0; ROWS];
+    if open_state(*pm, &mut keys, &mut rows).is_none() {
         return Err(Refusal::StateNotWhole);
     }
     why_on(&keys, call, slot)

@@ -1,5 +1,5 @@
 // The list call on the running form: it is decided on the keys of the marked slots before anything is written, and then its entries are stored in
-// place. The entry point by value, of crate `listing`, and the running machine test the state first and call this.
+// place. The entry point of crate `listing` and the running machine test the state first and call this.
 #![tactic(auto)]
 
 ghost use Rattle.std.specs.Prelude.{◌≡◌, true};

@@ -14,8 +14,8 @@ use Rattle.seq.proofs.Tests.{and_left}
 use Rattle.seq.proofs.Walks.{lowest-passes, any_found}
 use Rattle.seq.proofs.Members.{mem-at, select-mem}
 use Rattle.def.specs.declared.{PocVal.PocVal, Refusal.Refusal, Slot.Slot, EvcPm.EvcPm, EvcPoc.EvcPoc, EvcRefP.EvcRefP, PutCall.PutCall, RefpCall.RefpCall}
-use Rattle.def.specs.declared.{RefpResult.RefpResult, Answer.Answer}
-use Rattle.def.specs.Results.{PmResult}
+use Rattle.def.specs.declared.{Answer.Answer}
+use Rattle.def.specs.Results.{RefpResult, PmResult}
 use Rattle.def.specs.State.{slots, list_places, no_slot, is_idle, with_counts}
 use Rattle.def.proofs.Refusals.{refusals-in-use}
 use Rattle.def.proofs.WordLaws.{complement-fits}

@@ -2,5 +2,4 @@ pub mod BytesKept
 pub mod BytesFit
 pub mod ContentsKept
 pub mod ContentsImage
-mod Made
 mod Tested

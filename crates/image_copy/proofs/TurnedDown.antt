@@ -5,7 +5,8 @@ use mathlib.Core.Bool.{Bool, true, false, cond, ◌&&◌}
 use mathlib.Core.List.{List}
 use Rattle.seq.proofs.Tests.{and_left}
 use Rattle.def.specs.Refusals.{NumberInUse}
-use Rattle.def.specs.declared.{EvcRefP.EvcRefP, CopyResult.CopyResult}
+use Rattle.def.specs.declared.{EvcRefP.EvcRefP}
+use Rattle.def.specs.Results.{CopyResult}
 use Rattle.refp.proofs.CopyLaws.{copy-refused-unchanged}
 use Rattle.image.specs.Image.{Bytes, refp_at, refp_of, is_image}
 use Rattle.image.proofs.BytesKept.{bytes-kept}

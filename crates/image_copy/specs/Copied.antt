@@ -4,7 +4,7 @@ use Rattle.std.specs.Prelude.{ℕ, ◌≡◌, Bool, true, cond, ◌&&◌, List, 
 use Rattle.def.specs.Refusals.{NumberInUse}
 use Rattle.def.specs.declared.{Answer.Answer, Refusal.Refusal}
 use Rattle.def.specs.declared.EvcRefP.{EvcRefP}
-use Rattle.def.specs.declared.CopyResult.{CopyResult}
+use Rattle.def.specs.Results.{CopyResult}
 use Rattle.line.specs.Answers.{reply_of}
 use Rattle.image.specs.Image.{refp_width, image_bytes, pm_of, refp_at, refp_of, poc_of, is_flag, is_image}
 use Rattle.refp.specs.Copy.{copy}

@@ -13,8 +13,8 @@ use exchange::{read_machine, write_machine};
 use image::parts::Part;
 use image::places::REFP_WIDTH;
 use image::{is_flag, is_image};
-use line::{BAD_LINE, reply_of};
-use machine::Machine;
+use line::BAD_LINE;
+use statuses::status_of;
 
 fn is_entry(entry: &[u8]) -> bool
     ensures { result ≡ is_entry entry.now }
@@ -31,23 +31,18 @@ fn copy_entry(image: &mut [u8], cnt: u64, lidx: u64, entry: &[u8]) -> u8
         let lists = (copy_into image-in cnt lidx entry.now).refp in
         ImageHolds image.new (with_lists (machine_of image-in) lists) }
 {
-    let machine = read_machine(image);
+    let mut machine = read_machine(image);
     let src = EvcRefP::read(entry, 0);
-    let copied = check_copy_refp(machine.refp, cnt, lidx, src);
-    let refp = copied.refp;
-    let after = Machine { refp, ..machine };
-    write_machine(image, after);
-    reply_of(0, copied.answer).status
+    let done = check_copy_refp(&mut machine.refp, cnt, lidx, src);
+    write_machine(image, machine);
+    status_of(done)
 }
 
-// Writes an entry at place `cnt` of one list: 0, or 13 or 14. A copy answers as the other calls do, and gives the status of its answer's line.
+// Writes an entry at place `cnt` of one list: 0, or 13 or 14. A copy gives the status that the other calls show in their answers.
 pub fn copy_image(image: &mut [u8], cnt: u64, lidx: u64, entry: &[u8]) -> u8
     ensures { Copies result image.old cnt lidx entry.now image.new }
 {
-    if !is_image(image) {
-        return BAD_LINE;
-    }
-    if !is_entry(entry) {
+    if !is_image(image) || !is_entry(entry) {
         return BAD_LINE;
     }
     copy_entry(image, cnt, lidx, entry)

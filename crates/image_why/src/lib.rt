@@ -19,7 +19,7 @@ fn ask_image(image: &[u8], call: RefpCall, slot: u8, reason: &mut [u8]) -> Resul
     ensures { let pm = pm_of image.now in
         why_left (status result) reason.new ≡ shown_why (why pm call slot) reason.old }
 {
-    show_why(reason, evc_picman_why(read_pm(image), call, slot))
+    show_why(reason, evc_picman_why(&read_pm(image), call, slot))
 }
 
 // Of an image: the reason is written, or nothing is.

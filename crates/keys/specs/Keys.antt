@@ -6,8 +6,8 @@ use Rattle.std.specs.Prelude.{ℕ, ◌+◌, ◌-◌, ◌*◌, ◌/◌, ◌%◌, 
 use mir.Val.{bool_byte}
 use Rattle.seq.specs.Lists.{select, entries}
 use Rattle.def.specs.State.{slots, list_places}
-use Rattle.def.specs.declared.{Answer.Answer, Refusal.Refusal, Slot.Slot, EvcPm.EvcPm, EvcRefP.EvcRefP, RefpResult.RefpResult}
-use Rattle.def.specs.Results.{PmResult}
+use Rattle.def.specs.declared.{Answer.Answer, Refusal.Refusal, Slot.Slot, EvcPm.EvcPm, EvcRefP.EvcRefP}
+use Rattle.def.specs.Results.{RefpResult, PmResult}
 use Rattle.keys.specs.declared.{Rest.Rest}
 
 -- ---- a key

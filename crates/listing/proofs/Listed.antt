@@ -1,23 +1,25 @@
--- A list call on a state that came and was opened: it is handed back where it is not whole, and else the core has worked on it.
+-- A list call on a state that came and was opened: it stays where it is not whole, and else the core has worked on it.
 -- Assumes nothing.
 use mathlib.Core.Path.{◌≡◌, refl, sym, ap, ap₂, ◌∙◌}
 use mathlib.Core.Bool.{true}
 use mathlib.Core.List.{List}
 use Prim.Native.Nat.{ℕ}
-use Rattle.def.specs.declared.{EvcPm.EvcPm, EvcRefP.EvcRefP, RefpCall.RefpCall, RefpResult.RefpResult, Refusal.Refusal}
+use Rattle.def.specs.declared.{EvcPm.EvcPm, EvcRefP.EvcRefP, RefpCall.RefpCall, Refusal.Refusal}
+use Rattle.def.specs.Results.{RefpResult}
 use Rattle.keys.specs.Keys.{lists_in, stands, ComesLists, Called}
 use Rattle.whole.specs.Whole.{whole}
-use Rattle.refp.specs.Lists.{lists_refused, lists, lists_whole}
+use Rattle.refp.specs.Lists.{lists, lists_whole}
 use Rattle.refp.proofs.ListLaws.{lists-stay-whole}
-use Rattle.std.specs.Prelude.{Option, Some, None}
+use Rattle.std.specs.Prelude.{Option, Some, None, Err}
 use Rattle.keys.specs.declared.{Rest.Rest}
 use Rattle.entry.specs.Opening.{Opens}
+use Rattle.listing.specs.Listing.{GivesLists}
 use Rattle.entry.proofs.Opened.{came-whole, came-broken, opened-is}
 
 module _ {pm : EvcPm} {refp : List EvcRefP} {keys rows : List ℕ} {o : Option Rest} (p : Opens pm refp keys rows o) (c : RefpCall) where
-  pub lists-turned-away : o ≡ None → lists_refused Refusal.StateNotWhole pm refp ≡ lists pm refp c
+  pub lists-turned-away : o ≡ None → GivesLists (lists pm refp c) (Err Refusal.StateNotWhole) pm refp
   unfolding lists
-  lists-turned-away e = rw (came-broken p e) refl
+  lists-turned-away e = rw (came-broken p e) (record { answers = refl; leaves = refl; lists_are = refl })
 
   whole-lists : whole pm ≡ true → lists pm refp c ≡ lists_whole pm refp c
   unfolding lists
@@ -33,5 +35,5 @@ module _ {pm : EvcPm} {refp : List EvcRefP} {keys rows : List ℕ} {o : Option R
     lists-still-whole =
         ap whole (came.lists_stand_for ∙ ap (λ (x : RefpResult). x.pm) (sym on-whole)) ∙ lists-stay-whole pm refp c (came-whole p e)
 
-    pub lists-come-to : record { answer = r.answer; pm = stands keys after r.rest; refp = lists_in after } ≡ lists pm refp c
-    lists-come-to = rw (came.lists_answers, came.lists_stand_for, came.lists_are) (sym on-whole)
+    pub lists-come-to : GivesLists (lists pm refp c) r.answer (stands keys after r.rest) (lists_in after)
+    lists-come-to = rw on-whole (record { answers = came.lists_answers; leaves = came.lists_stand_for; lists_are = came.lists_are })

@@ -7,7 +7,8 @@ use mathlib.Core.Path.{◌≡◌, refl, sym, ap, ◌∙◌}
 use mathlib.Core.Bool.{true, true≢false}
 use mathlib.Core.List.{List}
 use lib.ListN.{length, length-set}
-use Rattle.def.specs.declared.{PocVal.PocVal, EvcPm.EvcPm, EvcRefP.EvcRefP, EvcPoc.EvcPoc, PutCall.PutCall, RefpCall.RefpCall, RefpResult.RefpResult}
+use Rattle.def.specs.declared.{PocVal.PocVal, EvcPm.EvcPm, EvcRefP.EvcRefP, EvcPoc.EvcPoc, PutCall.PutCall, RefpCall.RefpCall}
+use Rattle.def.specs.Results.{RefpResult}
 use Rattle.def.specs.declared.Answer.{Answer}
 use Rattle.def.specs.declared.Answer.TheVariants.{Done, Picture, NotYet, NoMore, Counts}
 use Rattle.def.specs.declared.Refusal.{Refusal}

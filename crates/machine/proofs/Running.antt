@@ -10,7 +10,8 @@ use native.Mathlib.Omega.{arith}
 use lib.Dec.{eqb}
 use lib.ListN.{get_or, take, drop, length-map, replicate, get_or-replicate}
 use Rattle.seq.specs.Lists.{entries_from, entries}
-use Rattle.def.specs.declared.{EvcPm.EvcPm, EvcRefP.EvcRefP, PutCall.PutCall, RefpCall.RefpCall, RefpResult.RefpResult, Answer.Answer, Refusal.Refusal}
+use Rattle.def.specs.declared.{EvcPm.EvcPm, EvcRefP.EvcRefP, PutCall.PutCall, RefpCall.RefpCall, Answer.Answer, Refusal.Refusal}
+use Rattle.def.specs.Results.{RefpResult}
 use Rattle.def.specs.State.{slots}
 use Rattle.keys.specs.Keys.{row_length, row_count, head_row, number_row, entry_row, rows_length, row_at, slot_at, entry_at, stands, lists_in, Sized, Called}
 use Rattle.keys.specs.declared.{Rest.Rest}

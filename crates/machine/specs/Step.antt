@@ -9,8 +9,7 @@ use Rattle.def.specs.declared.{PocVal.PocVal, Refusal.Refusal}
 use Rattle.def.specs.declared.EvcRefP.{EvcRefP}
 use Rattle.def.specs.declared.PutCall.{PutCall}
 use Rattle.def.specs.declared.RefpCall.{RefpCall}
-use Rattle.def.specs.declared.RefpResult.{RefpResult}
-use Rattle.def.specs.Results.{PmResult}
+use Rattle.def.specs.Results.{RefpResult, PmResult}
 use Rattle.poc.specs.PictureNumber.{Derivation, derive, record_of}
 use Rattle.refp.specs.Lists.{lists}
 use Rattle.picman.specs.Get.{get}

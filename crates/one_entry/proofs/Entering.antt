@@ -12,15 +12,17 @@ use lib.ListN.{length}
 use borrow.Author.Tests.{eqb-true, ltb-true}
 use Rattle.seq.proofs.Tests.{and_left, and_right}
 use Rattle.def.specs.State.{list_places}
-use Rattle.def.specs.declared.{Answer.Answer, CopyResult.CopyResult, EvcRefP.EvcRefP, Refusal.Refusal}
-use Rattle.def.specs.Refusals.{refusal_number}
+use Rattle.def.specs.declared.{Answer.Answer, EvcRefP.EvcRefP, Refusal.Refusal}
+use Rattle.def.specs.Results.{CopyResult}
+use Rattle.std.specs.Prelude.{Result, Ok, Err}
+use Rattle.def.specs.Refusals.{refusal_number, NumberInUse}
 use Rattle.def.proofs.Refusals.{refusals-in-use}
 use Rattle.keys.specs.Keys.{rows_length, head_of, lists_in}
-use Rattle.line.specs.declared.Reply.{Reply}
 use Rattle.line.specs.Answers.{reply_of}
 use Rattle.refp.specs.Copy.{copy}
+use Rattle.refp.specs.Answers.{copy_answer}
+use Rattle.statuses.specs.Statuses.{status}
 use Rattle.refp.specs.Running.{entry_with, rows_with_entry, CopyCame}
-use Rattle.machine.specs.Claims.{TurnedDown}
 use Rattle.machine.proofs.EveryCall.{refused-answer}
 use Rattle.one_entry.specs.OneEntry.{entry_given, fits, rows_placed, EntryPlaced}
 
@@ -69,27 +71,34 @@ module _ (rows numbers : List ℕ) (cnt lidx present buf poc : ℕ) where
       by (suc zero) g = refl
       by (suc (suc p)) g = absurd (omega arith)
 
+  -- a copy's status is the one that its answer shows
+  status-shown : (given : Result (Unit {0}) Refusal) → status given ≡ (reply_of 0 (copy_answer given)).status
+  status-shown (Ok done) = refl
+  status-shown (Err why) = refl
+
   -- a status of 0 is no refusal's
   not-refused : {answer : Result Answer Refusal} → (reply_of 0 answer).status ≡ 0 → (why : Refusal) → answer ≡ Err why → ⊥
   not-refused {answer} z why a =
       let number : refusal_number why ≡ 0 = sym (ap (λ (x : Result Answer Refusal). (reply_of 0 x).status) a) ∙ z in
       omega (arith, (refusals-in-use why).0)
 
-  pub placed : {head : ℕ} {got : List ℕ} {answer : Result Answer Refusal} {after : List ℕ} {r : Reply} → fits rows present numbers ≡ true → buf < 256
+  pub placed : {head : ℕ} {got : List ℕ} {after : List ℕ} {r : ℕ} (given : Result (Unit {0}) Refusal) → fits rows present numbers ≡ true → buf < 256
       → head ≡ 2 * buf + present → got ≡ numbers
-      → CopyCame answer rows after (rows_with_entry rows (lidx * list_places + cnt) head poc got) (copy (lists_in rows) cnt lidx (entry_with head poc got))
-      → r ≡ reply_of 0 answer
-      → EntryPlaced r.status (fits rows present numbers) rows after (rows_placed rows cnt lidx entry) (copy (lists_in rows) cnt lidx entry)
-  placed {head} {got} {answer} {after} e b h n came replied =
+      → CopyCame (copy_answer given) rows after (rows_with_entry rows (lidx * list_places + cnt) head poc got) (copy (lists_in rows) cnt lidx (entry_with head poc got))
+      → r ≡ status given
+      → EntryPlaced r (fits rows present numbers) rows after (rows_placed rows cnt lidx entry) (copy (lists_in rows) cnt lidx entry)
+  placed {head} {got} {after} {r} given e b h n came told =
+      let answer = copy_answer given in
+      let replied : r ≡ (reply_of 0 answer).status = told ∙ status-shown given in
       let fit = fitting rows present numbers e in
       let is : entry_with head poc got ≡ entry = rw (h, n) (entry-is present buf poc numbers fit.2 b) in
       let wanted : copy (lists_in rows) cnt lidx (entry_with head poc got) ≡ copy (lists_in rows) cnt lidx entry = ap (copy (lists_in rows) cnt lidx) is in
       let stored : rows_with_entry rows (lidx * list_places + cnt) head poc got ≡ rows_placed rows cnt lidx entry = rw (h, n, head-is fit.2) refl in
       record {
         gives = rw (e, replied, came.answers, wanted) refl;
-        rows_are = λ z. came.rows_are (not-refused (ap (λ (x : Reply). x.status) (sym replied) ∙ z)) ∙ stored;
+        rows_are = λ z. came.rows_are (not-refused (sym replied ∙ z)) ∙ stored;
         lists_are = λ _. came.lists_are ∙ ap (λ (x : CopyResult). x.refp) wanted;
         pictures_stay = came.pictures_stay;
-        refused_leaves = λ t. refused-answer 0 answer (subst TurnedDown replied t) came.refused_leaves;
+        refused_leaves = λ t. refused-answer 0 answer (subst NumberInUse replied t) came.refused_leaves;
         rows_long = came.rows_long ∙ sym fit.0;
       }

@@ -3,7 +3,8 @@
 use Rattle.std.specs.Prelude.{ℕ, ◌+◌, ◌*◌, ◌≡◌, Bool, true, cond, ◌&&◌, List, eqb, ltb, length}
 use Rattle.def.specs.Refusals.{NumberInUse}
 use Rattle.def.specs.State.{list_places}
-use Rattle.def.specs.declared.{EvcRefP.EvcRefP, CopyResult.CopyResult}
+use Rattle.def.specs.declared.{EvcRefP.EvcRefP}
+use Rattle.def.specs.Results.{CopyResult}
 use Rattle.keys.specs.Keys.{rows_length, lists_in}
 use Rattle.line.specs.Answers.{reply_of}
 use Rattle.keys.specs.Keys.{head_of}

@@ -8,7 +8,7 @@ ghost use Rattle.one_entry.specs.OneEntry.{entry_given, fits, rows_placed, Entry
 
 use keys::{ROW, ROWS};
 use line::BAD_LINE;
-use refp::copy_answer;
+use statuses::status_of;
 
 fn is_fit(rows: &[u32], present: u8, list_poc: &[u32]) -> bool
     ensures { result ≡ fits rows.now present list_poc.now }
@@ -23,8 +23,8 @@ fn head_from(present: u8, buf: u8) -> u32
     2 * u32::from(buf) + u32::from(present)
 }
 
-// Writes an entry at place `cnt` of list `lidx`: 0, 13 or 14, or 18 where a size or the flag does not fit. A copy answers as
-// the other calls do, and gives the status of its answer's line.
+// Writes an entry at place `cnt` of list `lidx`: 0, 13 or 14, or 18 where a size or the flag does not fit: the status that the
+// other calls show in their answers.
 pub fn place_entry(
     rows: &mut [u32],
     cnt: u64,
@@ -47,6 +47,5 @@ pub fn place_entry(
     let mut numbers = [0; ROW];
     numbers.copy_from_slice(list_poc);
     let head = head_from(present, buf);
-    let given = adding::copy_refp(rows, cnt, lidx, head, poc, &numbers);
-    line::reply_of(0, copy_answer(given)).status
+    status_of(adding::copy_refp(rows, cnt, lidx, head, poc, &numbers))
 }

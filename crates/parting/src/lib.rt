@@ -15,12 +15,11 @@ pub fn take_machine(m: Machine, keys: &mut [u64], rows: &mut [u32]) -> Scalars
     requires { Sized keys.old rows.old }
     ensures { TakenMachine m keys.new rows.new result }
 {
-    let pm = m.pm;
-    let refp = m.refp;
-    let poc = m.poc;
-    take_lists(refp, rows);
-    let rest = take_apart(pm, keys, rows);
-    Scalars { rest, poc }
+    take_lists(&m.refp, rows);
+    Scalars {
+        rest: take_apart(m.pm, keys, rows),
+        poc: m.poc,
+    }
 }
 
 // A machine whose state is whole.
@@ -28,9 +27,9 @@ pub fn put_machine(keys: &[u64], rows: &[u32], s: Scalars) -> Machine
     requires { Runs keys.now rows.now s }
     ensures { result ≡ machine_in keys.now rows.now s }
 {
-    let rest = s.rest;
-    let poc = s.poc;
-    let pm = put_together(keys, rows, rest);
-    let refp = put_lists(rows);
-    Machine { pm, refp, poc }
+    Machine {
+        pm: put_together(keys, rows, s.rest),
+        refp: put_lists(rows),
+        poc: s.poc,
+    }
 }

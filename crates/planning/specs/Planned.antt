@@ -32,11 +32,6 @@ abbrev pub plan_bytes : PicturePlan → List ℕ
 plan_bytes p =
     slice_byte p.slice_type ∷ p.slice_depth ∷ flag_byte p.slice_ref_flag ∷ word_bytes (twos_complement p.poc_val.0)
 
--- The number given: 0, or the refusal's.
-abbrev pub status_of : Result (Unit {0}) Refusal → ℕ
-status_of (Ok u) = 0
-status_of (Err why) = refusal_number why
-
 -- 0 with the record after and the plan; a refusal writes nothing.
 abbrev pub shown_plan : Result PicturePlan Refusal → EvcPoc → List ℕ → List ℕ → PlanLeft
 shown_plan (Ok p) r bs ps = plan_left 0 (poc_bytes r) (plan_bytes p)

@@ -4,13 +4,15 @@
 
 ghost use Rattle.std.specs.Prelude.{◌≡◌, length};
 ghost use Rattle.words.specs.Words.{poc_width, poc_bytes};
-ghost use Rattle.planning.specs.Planned.{plan_left, slice_byte, plan_width, plan_bytes, status_of, plan_called};
+ghost use Rattle.planning.specs.Planned.{plan_left, slice_byte, plan_width, plan_bytes, plan_called};
+ghost use Rattle.statuses.specs.Statuses.{status};
 
 use deciding::decide_normal_gop;
-use def::{DONE, Refusal, SliceType};
+use def::{Refusal, SliceType};
 use flags::flag_byte;
 use gop::PicturePlan;
 use records::{read_poc_at, write_poc_at, write_signed};
+use statuses::status_of;
 
 const RECORD_LENGTH: usize = 12;
 
@@ -45,7 +47,7 @@ fn plan_on(
     poc: &mut [u8],
     plan: &mut [u8],
 ) -> Result<(), Refusal>
-    ensures { plan_left (status_of result) poc.new plan.new
+    ensures { plan_left (status result) poc.new plan.new
         ≡ plan_called count gop_size interval inter hierarchy poc.old plan.old }
 {
     if poc.len() != RECORD_LENGTH || plan.len() != PLAN_LENGTH || 1 < hierarchy {
@@ -78,8 +80,5 @@ pub fn plan_picture(
     ensures { plan_left result poc.new plan.new
         ≡ plan_called count gop_size interval inter hierarchy poc.old plan.old }
 {
-    match plan_on(count, gop_size, interval, inter, hierarchy, poc, plan) {
-        Ok(()) => DONE,
-        Err(why) => u8::from(why),
-    }
+    status_of(plan_on(count, gop_size, interval, inter, hierarchy, poc, plan))
 }

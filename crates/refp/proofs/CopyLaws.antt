@@ -14,7 +14,8 @@ use Rattle.seq.proofs.Tests.{any-holds}
 use Rattle.seq.proofs.Walks.{highest-passes}
 use Rattle.seq.proofs.Members.{mem-at}
 use Rattle.def.specs.State.{list_places, no_ref_p}
-use Rattle.def.specs.declared.{EvcRefP.EvcRefP, CopyResult.CopyResult, Answer.Answer, Refusal.Refusal}
+use Rattle.def.specs.declared.{EvcRefP.EvcRefP, Answer.Answer, Refusal.Refusal}
+use Rattle.def.specs.Results.{CopyResult}
 use Rattle.refp.specs.Copy.{first_entries, copy}
 use Rattle.refp.specs.Claims.{CopyReason, no_place, same_number, CopyWhy, CopyRefusedUnchanged, CopyWrites}
 

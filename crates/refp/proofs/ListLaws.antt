@@ -13,7 +13,8 @@ use borrow.Author.Tests.{ltb-true, ltb-false, lt-ltb, le-ltb, eqb-true, eqb-fals
 use Rattle.seq.specs.Lists.{count_if}
 use Rattle.seq.proofs.Distinct.{distinct-map}
 use Rattle.def.specs.State.{list_places, highest_poc, no_slot, is_marked, with_counts}
-use Rattle.def.specs.declared.{Slot.Slot, EvcPm.EvcPm, EvcRefP.EvcRefP, RefpCall.RefpCall, RefpResult.RefpResult, Answer.Answer, Refusal.Refusal}
+use Rattle.def.specs.declared.{Slot.Slot, EvcPm.EvcPm, EvcRefP.EvcRefP, RefpCall.RefpCall, Answer.Answer, Refusal.Refusal}
+use Rattle.def.specs.Results.{RefpResult}
 use Rattle.whole.specs.Whole.{whole}
 use Rattle.whole.proofs.Laws.{whole-rules, rules-whole}
 use Rattle.ordering.specs.Order.{Key, key_of, down, MarkedKey}

@@ -4,7 +4,8 @@ use Rattle.std.specs.Prelude.{ℕ, ◌+◌, ◌*◌, ◌≤◌, ◌<◌, ◌≡�
 use mathlib.Core.List.{List, [], map, Memᴰ}
 use Rattle.seq.specs.Lists.{count_if, Distinct}
 use Rattle.def.specs.State.{list_places, highest_poc, no_ref_p, is_marked, with_counts}
-use Rattle.def.specs.declared.{EvcPm.EvcPm, EvcRefP.EvcRefP, RefpCall.RefpCall, RefpResult.RefpResult, Answer.Answer, Refusal.Refusal}
+use Rattle.def.specs.declared.{EvcPm.EvcPm, EvcRefP.EvcRefP, RefpCall.RefpCall, Answer.Answer, Refusal.Refusal}
+use Rattle.def.specs.Results.{RefpResult}
 use Rattle.whole.specs.Whole.{whole}
 use Rattle.ordering.specs.Order.{Key, down, MarkedKey}
 use Rattle.choosing.specs.Choice.{forward_of, Accepted}

@@ -3,7 +3,8 @@
 use Rattle.std.specs.Prelude.{ℕ, ◌+◌, ◌*◌, cond, ◌||◌, List, ltb, eqb, set, take, drop, Ok, Err}
 use Rattle.seq.specs.Lists.{any_of}
 use Rattle.def.specs.State.{list_places}
-use Rattle.def.specs.declared.{EvcRefP.EvcRefP, CopyResult.CopyResult, Answer.Answer, Refusal.Refusal}
+use Rattle.def.specs.declared.{EvcRefP.EvcRefP, Answer.Answer, Refusal.Refusal}
+use Rattle.def.specs.Results.{CopyResult}
 
 -- The first `cnt` entries of list `lidx`, 0 forward and 1 backward.
 abbrev pub first_entries : List EvcRefP → ℕ → ℕ → List EvcRefP

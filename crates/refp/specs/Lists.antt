@@ -2,7 +2,8 @@
 -- Assumes nothing.
 use Rattle.std.specs.Prelude.{Bool, true, false, cond, not, List, ◌++◌, map, ltb, length, get_or, take, drop, Ok, Err}
 use Rattle.def.specs.State.{list_places, highest_poc, no_slot, with_counts}
-use Rattle.def.specs.declared.{Slot.Slot, EvcPm.EvcPm, EvcRefP.EvcRefP, RefpCall.RefpCall, RefpResult.RefpResult, SliceType.SliceType, Answer.Answer, Refusal.Refusal}
+use Rattle.def.specs.declared.{Slot.Slot, EvcPm.EvcPm, EvcRefP.EvcRefP, RefpCall.RefpCall, SliceType.SliceType, Answer.Answer, Refusal.Refusal}
+use Rattle.def.specs.Results.{RefpResult}
 use Rattle.whole.specs.Whole.{whole}
 use Rattle.ordering.specs.Order.{Key, down}
 use Rattle.choosing.specs.Choice.{Chosen, turned_down, chosen, choice}

@@ -4,7 +4,8 @@ use Rattle.std.specs.Prelude.{ℕ, ◌+◌, ◌*◌, ◌/◌, ◌%◌, ◌<◌, 
 use mathlib.Core.List.{List, map, Memᴰ}
 use Rattle.std.proofs.Math.Seq.{paste}
 use Rattle.def.specs.State.{slots, list_places, highest_poc}
-use Rattle.def.specs.declared.{EvcRefP.EvcRefP, RefpCall.RefpCall, CopyResult.CopyResult, Answer.Answer, Refusal.Refusal}
+use Rattle.def.specs.declared.{EvcRefP.EvcRefP, RefpCall.RefpCall, Answer.Answer, Refusal.Refusal}
+use Rattle.def.specs.Results.{CopyResult}
 use Rattle.keys.specs.declared.{Rest.Rest}
 use Rattle.keys.specs.Keys.{key_present, key_buffer, key_number, row_length, head_row, number_row, entry_row, row_at, rows_length, slot_at, stands, lists_in, Sized, ComesLists, Called}
 use Rattle.ordering.specs.Order.{Key}

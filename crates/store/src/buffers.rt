@@ -4,7 +4,6 @@ ghost use Rattle.def.specs.State.{slots};
 ghost use Rattle.keys.specs.Keys.{key_buffers};
 ghost use Rattle.store.specs.FreeBuffer.{key_free, Held};
 
-use keys::SLOTS;
 use keys::key::{buffer_of, is_present};
 
 // As many buffer numbers as a key can name.
@@ -16,9 +15,9 @@ fn held_buffers(keys: &[u64]) -> [bool; BUFFERS]
     ensures { Held (key_buffers keys.now) result }
 {
     let mut held = [false; BUFFERS];
-    for i in 0..SLOTS {
-        let b = buffer_of(keys[i]);
-        held[b] = held[b] | is_present(keys[i]);
+    for key in keys {
+        let b = buffer_of(*key);
+        held[b] |= is_present(*key);
     }
     held
 }

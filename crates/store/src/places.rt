@@ -16,12 +16,7 @@ pub fn lowest_idle(keys: &[u64]) -> Option<usize>
 pub fn highest_empty(keys: &[u64]) -> Option<usize>
     ensures { result ≡ highest_place key_empty keys.now }
 {
-    for i in (0..keys.len()).rev() {
-        if !is_present(keys[i]) {
-            return Some(i);
-        }
-    }
-    None
+    keys.iter().rposition(|key| !is_present(*key))
 }
 
 // A sum without a branch: `filter` and `count` take twice the time of marking's other steps.

@@ -3,7 +3,6 @@ ghost use Rattle.std.specs.Prelude.{◌≡◌, length};
 ghost use Rattle.def.specs.State.{slots};
 ghost use Rattle.wholeness.specs.Tallies.{Roomy, no_tally, tallied, tally_all};
 
-use keys::SLOTS;
 use keys::key::is_present;
 
 // What one pass over the keys gathers. The bits of those without a picture and of those with one; how many have a picture and how many are
@@ -64,8 +63,8 @@ pub fn tally_all(keys: &[u64]) -> Tally
         set: 0,
         sum: 0,
     };
-    for i in 0..SLOTS / 3 {
-        t = tally_three(t, keys[3 * i], keys[3 * i + 1], keys[3 * i + 2]);
+    for [a, b, c] in keys.as_chunks::<3>().0 {
+        t = tally_three(t, *a, *b, *c);
     }
     t
 }

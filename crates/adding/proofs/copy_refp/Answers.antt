@@ -10,7 +10,8 @@ use lib.Dec.{ltb}
 use lib.ListN.{length, set}
 use borrow.Author.Rules.{rules}
 use borrow.Author.Tests.{lt-ltb, le-ltb}
-use Rattle.def.specs.declared.{EvcRefP.EvcRefP, CopyResult.CopyResult, Answer.Answer, Refusal.Refusal}
+use Rattle.def.specs.declared.{EvcRefP.EvcRefP, Answer.Answer, Refusal.Refusal}
+use Rattle.def.specs.Results.{CopyResult}
 use Rattle.keys.specs.Keys.{rows_length, lists_in}
 use Rattle.refp.specs.Copy.{copy}
 use Rattle.refp.specs.Running.{entry_with, EntryStored, CopyCame}

@@ -7,6 +7,6 @@ use Rattle.copying.proofs.check_copy_refp.Goals as goal
 pub returns : goal.returns
 returns c =
     let e = c.args.refp_src in
-    rw (c.put_lists-copied.ensures, c.copy_answer-answer.ensures)
+    rw c.put_lists.ensures
     (copy-comes-to _ _ e c.take_lists.ensures.lists_are
     (rw (c.head_of.ensures, entry-parts e (search rules)) at c.copy_refp-given.ensures))

@@ -1,8 +1,7 @@
 -- `entries::take_entry` meets its contract: flag and buffer number, number and row are the entry's. Assumes nothing.
 use mathlib.Core.Path.{subst}
 use Prim.Native.Nat.{◌+◌, ◌*◌}
-use native.Mathlib.Omega.{arith}
-use lib.ListN.{set, length-set}
+use lib.ListN.{set}
 use lib.Seq.{paste}
 use Rattle.def.specs.declared.{EvcRefP.EvcRefP}
 use Rattle.keys.specs.Keys.{row_length, head_row, number_row, entry_row, head_of}
@@ -11,13 +10,6 @@ use Rattle.refp.proofs.Entries.{entry-stored}
 use Rattle.entries.proofs.EntryLaws.{entry-parts}
 use borrow.Author.Rules.{rules}
 use Rattle.entries.proofs.take_entry.Goals as goal
-
-pub bounds-rows-j-2 : goal.bounds-rows-j-2
-bounds-rows-j-2 c = simp length-set (let l = c.requires.0 in omega arith)
-
-pub write_row-requires : goal.write_row-requires
-write_row-requires c =
-    (simp (length-set, length-set) c.requires.0, let h = c.requires.1 in omega arith)
 
 pub returns : goal.returns
 returns c =

@@ -1,12 +1,7 @@
 use mathlib.Core.Path.{◌≡◌}
-use Prim.Native.Nat.{◌≤◌, ◌-◌}
 use lib.ListN.{length, take}
 use Rattle.keys.specs.Keys.{rows_length, lists_in}
-use Rattle.entries.specs.Entries.{places}
 use Rattle.entries.proofs.take_lists.Given as goal
 
 abbrev pub invariant-loop-j : goal.invariant-loop-j
-invariant-loop-j l = (l.j ≤ places) × (length l.refp ≡ places) × (length l.rows ≡ rows_length) × (take l.j (lists_in l.rows) ≡ take l.j l.refp)
-
-abbrev pub decreases-loop-j : goal.decreases-loop-j
-decreases-loop-j l = places - l.j
+invariant-loop-j l = (length l.rows ≡ rows_length) × (take l.j (lists_in l.rows) ≡ take l.j l.refp)

@@ -16,6 +16,8 @@ use Rattle.image.proofs.BytesKept.{image-long}
 use Rattle.exchange.proofs.Kept.{left-kept}
 use Rattle.image_copy.proofs.TurnedDown.{copy-kept}
 use Rattle.image_copy.proofs.copy_image.Goals as goal
+use Rattle.image_copy.proofs.copy_image.Goals.{then-not-is_image-via-then-not-is_image as no_image}
+use Rattle.image_copy.proofs.copy_image.Goals.{then-not-is_image-via-else-not-is_image+then-not-is_entry as no_entry}
 
 entry-long : (bs : List ℕ) → is_entry bs ≡ true → length bs ≡ refp_width
 entry-long bs e = eqb-true (length bs) refp_width (and_left (eqb (length bs) refp_width) (is_flag bs 0) e)
@@ -28,13 +30,15 @@ copies {cnt = cnt} {lidx} {image} {entry} bytes e h = record { given = e; holds 
 pub returns-then-not-is_image : goal.returns-then-not-is_image
 unfolding copied
 returns-then-not-is_image c =
-    copies (record { each = λ i. omega (arith, c.slice_known-1.given i) }) (rw (sym c.is_image.ensures ∙ c.if-not-is_image.true)) (λ f _. absurd (true≢false (sym f ∙ (sym c.is_image.ensures ∙ c.if-not-is_image.true))))
-
-pub returns-then-not-is_entry : goal.returns-then-not-is_entry
-unfolding copied
-returns-then-not-is_entry c =
-    let e : is_entry c.args.entry.now ≡ false = sym c.is_entry.ensures ∙ c.if-not-is_entry.true in
-    copies (record { each = λ i. omega (arith, c.slice_known-1.given i) }) (rw ((sym c.is_image.ensures ∙ c.if-not-is_image.false), e)) (λ _ f. absurd (true≢false (sym f ∙ e)))
+    let bytes : Bytes c.args.image.now = record { each = λ i. omega (arith, c.slice_known-1.given i) } in
+    elim c.then-not-is_image.branch [
+      | no_image w ↦
+          let e : is_image c.args.image.now ≡ false = sym c.is_image.ensures ∙ w.if-not-is_image.true in
+          copies bytes (rw e) (λ f _. absurd (true≢false (sym f ∙ e)))
+      | no_entry w ↦
+          let e : is_entry c.args.entry.now ≡ false = sym w.is_entry.ensures ∙ w.if-not-is_entry.true in
+          copies bytes (rw ((sym c.is_image.ensures ∙ w.if-not-is_image.false), e)) (λ _ f. absurd (true≢false (sym f ∙ e)))
+    ]
 
 pub copy_entry-requires : goal.copy_entry-requires
 copy_entry-requires c =

@@ -1,5 +1,4 @@
--- `listing::evc_picman_refp_init` meets its contract: a state that is not whole is handed back, and else the core's call is the definition's. Assumes nothing.
-use mathlib.Core.Path.{refl}
+-- `listing::evc_picman_refp_init` meets its contract: a state that is not whole stays, and else the core's call is the definition's. Assumes nothing.
 use Rattle.entry.proofs.Opened.{opened-whole}
 use Rattle.entry.proofs.Defining.{opened}
 use Rattle.listing.proofs.Listed.{lists-turned-away, lists-still-whole, lists-come-to}
@@ -22,5 +21,5 @@ put_together-requires c =
 pub returns : goal.returns
 returns c =
     let o = opened c.take_lists.ensures c.open_state.ensures in
-    rw (c.put_lists.ensures, c.put_together.ensures, c.lists_answer.ensures)
+    rw (c.put_lists.ensures, c.put_together.ensures)
     (lists-come-to o _ c.in-Some.is c.refp_init-given.ensures.comes)

@@ -10,11 +10,11 @@ returns-then-not-is_fit c = not-placed _ _ (sym c.is_fit.ensures ∙ c.if-not-is
 pub copy_from_slice-requires : goal.copy_from_slice-requires
 copy_from_slice-requires c = sym (fitting c.args.rows.now c.args.present c.args.list_poc.now (sym c.is_fit.ensures ∙ c.if-not-is_fit.false)).1
 
-pub copy_refp-given-requires : goal.copy_refp-given-requires
-copy_refp-given-requires c =
+pub copy_refp-requires : goal.copy_refp-requires
+copy_refp-requires c =
     (fitting c.args.rows.now c.args.present c.args.list_poc.now (sym c.is_fit.ensures ∙ c.if-not-is_fit.false)).0
 
 pub returns : goal.returns
 returns c =
-    placed c.args.rows.now c.args.list_poc.now c.args.cnt c.args.lidx c.args.present c.args.buf c.args.poc (sym c.is_fit.ensures ∙ c.if-not-is_fit.false) (search rules)
-    c.head_from-head.ensures c.copy_from_slice.ensures.after c.copy_refp-given.ensures (rw c.copy_answer.ensures at c.reply_of.ensures)
+    placed c.args.rows.now c.args.list_poc.now c.args.cnt c.args.lidx c.args.present c.args.buf c.args.poc c.copy_refp.result (sym c.is_fit.ensures ∙ c.if-not-is_fit.false) (search rules)
+    c.head_from-head.ensures c.copy_from_slice.ensures.after c.copy_refp.ensures c.status_of.ensures

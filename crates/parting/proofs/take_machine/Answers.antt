@@ -4,7 +4,7 @@ use Rattle.parting.proofs.take_machine.Goals as goal
 
 pub returns : goal.returns
 returns c =
-    let t = c.take_apart-rest.ensures in
+    let t = c.take_apart.ensures in
     record {
       same_whole = t.same_whole;
       same_state = t.same_state;

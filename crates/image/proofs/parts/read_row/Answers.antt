@@ -1,5 +1,5 @@
 use Rattle.std.proofs.Common.{rules, ◌+◌, ◌*◌}
-use Rattle.image.proofs.Made.{made}
+use Rattle.seq.proofs.Made.{made}
 use Rattle.image.proofs.parts.read_row.Goals as goal
 
 pub returns : goal.returns
