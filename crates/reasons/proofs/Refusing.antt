@@ -72,10 +72,10 @@ module _ (pm : EvcPm) (c : RefpCall) (slot : ℕ) where
 
   -- ---- refused
 
-  slot-refused : (told : Reason) {r : Refusal} → ((q : Refusal) → ListsReason pm c q → ⊥) → (b : Bool) → is_present (get_or pm.pic slot no_slot) ≡ b
-      → cond b (Ok told) (Err Refusal.NoSuchPlace) ≡ Err r → WhyRefusal pm c slot r
-  slot-refused told none true b e = absurd (told-refused e)
-  slot-refused told {r = r} none false b e = let q : Refusal.NoSuchPlace ≡ r = cc in subst (WhyRefusal pm c slot) q (no_picture none b)
+  slot-refused : (said : Reason) {r : Refusal} → ((q : Refusal) → ListsReason pm c q → ⊥) → (b : Bool) → is_present (get_or pm.pic slot no_slot) ≡ b
+      → cond b (Ok said) (Err Refusal.NoSuchPlace) ≡ Err r → WhyRefusal pm c slot r
+  slot-refused said none true b e = absurd (told-refused e)
+  slot-refused said {r = r} none false b e = let q : Refusal.NoSuchPlace ≡ r = cc in subst (WhyRefusal pm c slot) q (no_picture none b)
 
   refused_why : {r : Refusal} {a : Result Reason Refusal} → WhyEnd pm c slot a → a ≡ Err r → WhyRefusal pm c slot r
   refused_why {r} (turned-away q k) e = let s : q ≡ r = cc in of_lists (subst (ListsReason pm c) s k)
@@ -91,7 +91,7 @@ module _ (pm : EvcPm) (c : RefpCall) (slot : ℕ) where
       → a ≡ Err Refusal.NoSuchPlace
   empty none b (turned-away q l) = absurd (none q l)
   empty none b (for-i w h i) = rw b
-  empty none b (judges a fwd bwd g) = rw b
+  empty none b (judges a _ _ g) = rw b
 
   pub why-refuses : {r : Refusal} → WhyRefusal pm c slot r → why pm c slot ≡ Err r
   why-refuses (of_lists k) = away k why-end
@@ -106,7 +106,7 @@ module _ (pm : EvcPm) (c : RefpCall) (slot : ℕ) where
       pick : {a : Result Reason Refusal} → WhyEnd pm c slot a → a ≡ Ok (reason_for c pm.pic slot)
       pick (turned-away r k) = absurd (not-counts (sym q.accepted ∙ (lists-why pm refp c r).1 k))
       pick (for-i w h i) = absurd (Bool.true≢false (sym i ∙ q.not_i))
-      pick (judges a fwd bwd g) = rw q.occupied
+      pick (judges a _ _ g) = rw q.occupied
 
   pub is_whole : {refp : List EvcRefP} → AskedOf pm refp c slot → whole pm ≡ true
   is_whole {refp} q = pick why-end
@@ -114,7 +114,7 @@ module _ (pm : EvcPm) (c : RefpCall) (slot : ℕ) where
       pick : {a : Result Reason Refusal} → WhyEnd pm c slot a → whole pm ≡ true
       pick (turned-away r k) = absurd (not-counts (sym q.accepted ∙ (lists-why pm refp c r).1 k))
       pick (for-i w h i) = w
-      pick (judges a fwd bwd g) = a.is_whole
+      pick (judges a _ _ g) = a.is_whole
 
 pub why-refused : WhyRefused
 why-refused pm c slot r = (refused_why pm c slot (why-end pm c slot), why-refuses pm c slot)

@@ -143,7 +143,7 @@ only-counts pm refp c = pick (lists-end pm refp c)
     pick : {r : RefpResult} → ListsEnd pm refp c r → r.pm ≡ with_counts pm r.pm.num_refp_0 r.pm.num_refp_1
     pick (refuses why k) = refl
     pick (no-list w i) = refl
-    pick (builds a fwd bwd k) = refl
+    pick (builds a _ _ k) = refl
 
 counts_whole : (pm : EvcPm) (f b : ℕ) → whole pm ≡ true → f ≤ list_places → b ≤ list_places → whole (with_counts pm f b) ≡ true
 counts_whole pm f b h u v =
