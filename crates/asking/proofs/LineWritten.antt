@@ -20,7 +20,6 @@ use Rattle.line.specs.Calls.{call_bytes, call_kind}
 use Rattle.line.specs.Claims.{CallFits}
 use Rattle.line.proofs.Bodies.{calls-lawful}
 use Rattle.writer.specs.Writing.{WrittenOut, written_out, is_call_body, written}
-use Rattle.phrases.specs.Phrases.{Added}
 use Rattle.phrases.proofs.Adding.{pasted}
 
 size-most : (call : Call) → line_size (call_bytes call) ≤ 27

@@ -1,9 +1,9 @@
 -- Where the first newline stands, as the library's search has it and as the definitions do.
 -- Assumes nothing.
-use Rattle.std.proofs.Common.{◌≡◌, ℕ, ◌+◌, ◌-◌, ◌≤◌, Bool, true, false, cond, ltb, List, ◌∷◌, length, suc, ap, refl, ◌∙◌, arith, ltb-false}
+use Rattle.std.proofs.Common.{◌≡◌, ℕ, ◌+◌, ◌-◌, Bool, true, false, cond, ltb, List, length, suc, ap, refl, ◌∙◌, arith, ltb-false}
 use lib.ListN.{take, drop, length-drop}
 use lib.Seq.{take_all}
-use Rattle.std.specs.Prelude.{Option, Some, None, position}
+use Rattle.std.specs.Prelude.{Some, None, position}
 use Rattle.std.specs.List.{position_or_len}
 use Rattle.std.proofs.lemmas.List.Recursion.{is_position_or_len}
 use Rattle.seq.specs.Lists.{lowest}

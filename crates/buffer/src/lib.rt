@@ -1,7 +1,7 @@
 // A buffer of lines: where a line ends, and bytes copied into one.
 #![tactic(auto)]
 
-ghost use Rattle.std.specs.Prelude.{◌≡◌, ◌+◌, ◌≤◌, length, drop, position};
+ghost use Rattle.std.specs.Prelude.{◌≡◌, ◌+◌, ◌≤◌, length, position};
 ghost use Rattle.std.proofs.Math.Seq.{paste};
 ghost use Rattle.buffer.specs.Buffer.{is_newline, line_end};
 

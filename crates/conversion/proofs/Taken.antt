@@ -221,9 +221,6 @@ pub record Taking (ss : List Slot) (before keys rows : List ℕ) (i : ℕ) : Typ
   pub shaped-so-far : (s : Slot) → Memᴰ s (take i ss) → Shaped s
 
 module _ {ss : List Slot} {before keys : List ℕ} where
-  pub taking-none : Taking ss before keys before 0
-  taking-none = record { keys-so-far = refl; rows-so-far = refl; shaped-so-far = λ s m. absurd (Memᴰ.not-nil m) }
-
   pub taking-turn : {rows : List ℕ} {i k : ℕ} {after : List ℕ} → length ss ≡ slots → Sized keys rows → i < slots → Taking ss before keys rows i
       → TakenSlot (get_or ss i no_slot) k rows after
       → (i + 1 ≤ slots) × (length ss ≡ slots) × Sized (set keys i k) after × Taking ss before (set keys i k) after (i + 1)

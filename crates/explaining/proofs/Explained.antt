@@ -1,13 +1,12 @@
 -- The question why of a state that came and was opened: it is turned down where it is not whole, and else asked of the keys.
 -- Assumes nothing.
-use Rattle.std.proofs.Common.{Result, Ok, Err}
+use Rattle.std.proofs.Common.{Err}
 use mathlib.Core.Path.{◌≡◌, refl, ap, sym, ◌∙◌}
 use mathlib.Core.Bool.{true, false}
 use mathlib.Core.List.{List, map}
 use Prim.Native.Nat.{ℕ}
 use Rattle.def.specs.declared.{EvcPm.EvcPm, EvcRefP.EvcRefP, RefpCall.RefpCall, Refusal.Refusal}
 use Rattle.keys.specs.Keys.{slot_at}
-use Rattle.reasons.specs.declared.Reason.{Reason}
 use Rattle.reasons.specs.Reasons.{why_whole, why}
 use Rattle.std.specs.Prelude.{Option, Some, None, is_some}
 use Rattle.keys.specs.declared.{Rest.Rest}

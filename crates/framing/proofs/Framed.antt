@@ -1,14 +1,13 @@
 -- What each test of a line's characters decides, and what a framed line says, whatever its kind.
 -- Assumes nothing.
-use Rattle.std.specs.Prelude.{Option, Some, None}
-use Prim.Native.Nat.{ℕ, ◌-◌, ◌/◌, ◌%◌, ◌<◌}
+use Rattle.std.specs.Prelude.{Option, None}
+use Prim.Native.Nat.{ℕ, ◌/◌, ◌%◌, ◌<◌}
 use native.Mathlib.Omega.{arith}
-use mathlib.Core.Path.{◌≡◌, refl, sym, ap, ◌∙◌}
+use mathlib.Core.Path.{◌≡◌, refl, ap, ◌∙◌}
 use mathlib.Core.Bool.{Bool, true, false, cond, ◌&&◌}
 use mathlib.Core.List.{List}
 use lib.Dec.{ltb, eqb}
-use lib.ListN.{length, take}
-use lib.Seq.{take-take}
+use lib.ListN.{length}
 use borrow.Author.Tests.{ltb-true, ne_eqb, eq-eqb}
 use Rattle.seq.specs.Lists.{all_of}
 use Rattle.seq.proofs.Tests.{and_left, and_right}
@@ -20,9 +19,6 @@ module _ (cs : List ℕ) where
   pub odd : (length cs % 2 ≡ 0 → ⊥) → is_framed cs ≡ false
   odd h = rw (not-second (all_of is_digit cs) (eqb (length cs % 2) 0) (ne_eqb (length cs % 2) 0 h))
 
-  pub no-hex : all_of is_digit cs ≡ false → is_framed cs ≡ false
-  no-hex e = rw e
-
   pub hex : all_of is_digit cs ≡ true → length cs % 2 ≡ 0 → is_framed cs ≡ is_checked (bytes_of cs)
   hex e f = rw (e, eq-eqb (length cs % 2) 0 f)
 
@@ -32,14 +28,6 @@ module _ (cs : List ℕ) where
       let checked = and_right (is_hex cs) (is_checked (bytes_of cs)) e in
       let some = ltb-true 0 (length (bytes_of cs)) (and_left (ltb 0 (length (bytes_of cs))) (eqb (sum8 (bytes_of cs)) 0) checked) in
       omega (arith, bytes-length cs)
-
-  -- The body of its bytes, where they stand at the front.
-  pub body-at-front : (bytes : List ℕ) → take (length cs / 2) bytes ≡ bytes_of cs → take (length cs / 2 - 1) bytes ≡ body_of (bytes_of cs)
-  unfolding body_of
-  body-at-front bytes f =
-      sym (take-take (length cs / 2 - 1) (length cs / 2) bytes (omega arith))
-      ∙ ap (take (length cs / 2 - 1)) f
-      ∙ ap (λ (k : ℕ). take (k - 1) (bytes_of cs)) (sym (bytes-length cs))
 
 module _ {A : Type 0} (kind : Kind A) (cs : List ℕ) where
   both-tests : (a b : Bool) (o : Option A) → cond a (cond b o None) None ≡ cond (a && b) o None

@@ -2,17 +2,16 @@
 -- Assumes nothing.
 use Prim.Native.Nat.{ℕ, ◌+◌, ◌-◌, ◌*◌, ◌/◌, ◌%◌, ◌<◌, ◌≤◌}
 use native.Mathlib.Omega.{arith}
-use native.Mathlib.Numerals.{add-one}
 use mathlib.Core.Path.{◌≡◌, refl, ap, ◌∙◌}
 use mathlib.Core.Bool.{Bool, true, false, ◌&&◌}
 use mathlib.Core.List.{List, [], ◌∷◌, ◌++◌}
 use mathlib.Core.Logic.{◌⊎◌, ⊎_elim, inl, inr}
 use lib.Dec.{leb, ltb}
-use lib.ListN.{length, get_or, drop}
-use lib.Seq.{drop-cons, length-take-le}
+use lib.ListN.{length}
+use lib.Seq.{length-take-le}
 use borrow.Author.Tests.{leb-true, le-leb, lt-leb, ltb-true, ltb-false, lt-ltb, le-ltb}
 use Rattle.seq.specs.Lists.{all_of}
-use Rattle.hex_digits.specs.Hex.{is_digit, digit_value, char_value, digit_of, bytes_of, digits_of, sum8, check_byte}
+use Rattle.hex_digits.specs.Hex.{is_digit, digit_value, digit_of, bytes_of, digits_of, sum8, check_byte}
 use Rattle.hex_digits.specs.Frame.{AreBytes, body_of}
 
 -- Two tests joined.
@@ -49,27 +48,15 @@ each-digit P f g c e =
 pub digit-fits : (c : ℕ) → is_digit c ≡ true → digit_value c < 16
 digit-fits = each-digit (λ (c v : ℕ). v < 16) (λ c h k. omega arith) (λ c h k. omega arith)
 
--- A digit's value without a test.
-pub digit-halves : (c : ℕ) → is_digit c ≡ true → c % 16 + 9 * (c / 64) ≡ digit_value c
-digit-halves = each-digit (λ (c v : ℕ). c % 16 + 9 * (c / 64) ≡ v) (λ c h k. omega arith) (λ c h k. omega arith)
-
 pub sum8-fits : (bs : List ℕ) → sum8 bs < 256
 unfolding sum8
 sum8-fits [] = omega arith
 sum8-fits (b ∷ bs) = omega arith
 
-pub sum8-step : (bs : List ℕ) (i : ℕ) → i < length bs → sum8 (drop i bs) ≡ (get_or bs i 0 + sum8 (drop (i + 1) bs)) % 256
-unfolding sum8
-sum8-step bs i h = rw (add-one, drop-cons bs i 0)
-
 pub sum8-append : (bs cs : List ℕ) → sum8 (bs ++ cs) ≡ (sum8 bs + sum8 cs) % 256
 unfolding sum8
 sum8-append [] cs = omega (arith, sum8-fits cs)
 sum8-append (b ∷ bs) cs = let e = sum8-append bs cs in omega arith
-
-pub sum8-zero : (bs : List ℕ) → sum8 (bs ++ (0 ∷ [])) ≡ sum8 bs
-unfolding sum8
-sum8-zero bs = omega (arith, sum8-append bs (0 ∷ []), sum8-fits bs)
 
 -- The check byte brings the sum to zero.
 pub check-sum : (bs : List ℕ) → sum8 (bs ++ (check_byte bs ∷ [])) ≡ 0
@@ -161,15 +148,3 @@ body-length bs = length-take-le (length bs - 1) bs (omega arith)
 pub not-second : (a b : Bool) → b ≡ false → (a && b) ≡ false
 not-second true b e = e
 not-second false b e = refl
-
--- The value of a digit, as the table has it.
-pub char-digit : (c : ℕ) → is_digit c ≡ true → char_value c ≡ digit_value c
-char-digit c e = rw e
-
--- What is below 16 in the table is a digit.
-pub digit-test : (c : ℕ) → ltb (char_value c) 16 ≡ is_digit c
-digit-test c = by (is_digit c) refl
-  where
-    by : (b : Bool) → is_digit c ≡ b → ltb (char_value c) 16 ≡ b
-    by true e = rw e (lt-ltb (digit_value c) 16 (digit-fits c e))
-    by false e = rw e

@@ -1,15 +1,15 @@
 -- Steps of the loops over pairs of digits: what one more pair adds to the bytes read, and what one more byte adds to the digits written.
 -- Assumes nothing.
-use Prim.Native.Nat.{ℕ, suc, ◌+◌, ◌*◌, ◌/◌, ◌%◌, ◌<◌}
+use Prim.Native.Nat.{ℕ, suc, ◌+◌, ◌*◌, ◌<◌}
 use native.Mathlib.Omega.{arith}
 use native.Mathlib.Numerals.{add-one}
 use mathlib.Core.Path.{◌≡◌, refl, sym, ap, ◌∙◌}
 use mathlib.Core.Bool.{Bool, true, false, ◌&&◌}
-use mathlib.Core.List.{List, [], ◌∷◌, ◌++◌}
-use lib.ListN.{length, get_or, take, drop, set, length-set}
+use mathlib.Core.List.{List, ◌∷◌, ◌++◌}
+use lib.ListN.{length, get_or, take, drop, set}
 use lib.Seq.{drop-cons, take-suc-set, append_snoc}
 use Rattle.seq.specs.Lists.{all_of}
-use Rattle.hex_digits.specs.Hex.{is_digit, digit_value, digit_of, bytes_of, digits_of}
+use Rattle.hex_digits.specs.Hex.{is_digit, digit_value, bytes_of}
 
 -- Two elements from place 2 i on.
 pub drop-pair : (cs : List ℕ) (i : ℕ) → 2 * i + 1 < length cs → drop (2 * i) cs ≡ get_or cs (2 * i) 0 ∷ get_or cs (2 * i + 1) 0 ∷ drop (2 * (i + 1)) cs
@@ -57,21 +57,3 @@ pair-bytes cs bs i b p q e =
     ∙ ap (λ (t : List ℕ). t ++ rest) (take-suc-set bs i b q)
     ∙ append_snoc (take i bs) b rest
     ∙ rw e (sym (rw (drop-pair cs i p)))
-
--- What the digits of a byte add, after those of the bytes before it.
-pub pair-digits : (bs line : List ℕ) (i h l : ℕ) → i < length bs → 2 * i + 1 < length line → h ≡ digit_of (get_or bs i 0 / 16) → l ≡ digit_of (get_or bs i 0 % 16)
-    → take (2 * (i + 1)) (set (set line (2 * i) h) (2 * i + 1) l) ++ digits_of (drop (i + 1) bs) ≡ take (2 * i) line ++ digits_of (drop i bs)
-unfolding digits_of
-pair-digits bs line i h l p q e f =
-    let rest = digits_of (drop (i + 1) bs) in
-    let one = set line (2 * i) h in
-    let k : 2 * i < length line = omega arith in
-    let m : 2 * i + 1 < length one = rw length-set q in
-    let n : 2 * (i + 1) ≡ suc (2 * i + 1) = omega arith in
-    let o : 2 * i + 1 ≡ suc (2 * i) = omega arith in
-    ap (λ (j : ℕ). take j (set one (2 * i + 1) l) ++ rest) n
-    ∙ ap (λ (t : List ℕ). t ++ rest)
-    (take-suc-set one (2 * i + 1) l m ∙ ap (λ (j : ℕ). take j one ++ (l ∷ [])) o ∙ ap (λ (t : List ℕ). t ++ (l ∷ [])) (take-suc-set line (2 * i) h k))
-    ∙ append_snoc (take (2 * i) line ++ (h ∷ [])) l rest
-    ∙ append_snoc (take (2 * i) line) h (l ∷ rest)
-    ∙ rw (e, f) (sym (ap (λ (t : List ℕ). take (2 * i) line ++ digits_of t) (drop-cons bs i 0 p ∙ ap (λ (j : ℕ). get_or bs i 0 ∷ drop j bs) (sym (add-one i)))))

@@ -1,7 +1,7 @@
 -- What an answer says that is made by a test.
 -- Assumes nothing.
 use Rattle.std.proofs.Common.{◌≡◌, ℕ, Bool, true, false, cond, refl, arith}
-use Rattle.std.specs.Prelude.{Option, Some, None}
+use Rattle.std.specs.Prelude.{Some, None}
 
 module _ {A : Type 0} where
   pub test-failed : (b : Bool) (v : A) → cond b (Some v) None ≡ None → b ≡ false

@@ -1,6 +1,6 @@
 -- An array whose elements a closure gives, each by its place: where the closure stays as it is, they are the entries of a rule.
 -- Assumes nothing.
-use Rattle.std.proofs.Common.{◌≡◌, ℕ, zero, suc, ◌+◌, ◌<◌, List, length, sym, ap, ◌∙◌, subst, refl, arith}
+use Rattle.std.proofs.Common.{◌≡◌, ℕ, zero, suc, ◌+◌, ◌<◌, List, sym, ◌∙◌, subst, refl, arith}
 use lib.ListN.{get_or}
 use lib.Seq.{ext_get_or}
 use denote.Param.Members.{Mut, Called}

@@ -1,19 +1,18 @@
 -- What each test of a line's characters and bytes decides.
 -- Assumes nothing.
 use Rattle.std.specs.Prelude.{None}
-use Prim.Native.Nat.{ℕ, ◌%◌, ◌<◌}
-use mathlib.Core.Path.{◌≡◌, ap}
+use Prim.Native.Nat.{ℕ, ◌%◌}
+use mathlib.Core.Path.{◌≡◌}
 use mathlib.Core.Bool.{true, false}
 use mathlib.Core.List.{List}
-use lib.Dec.{ltb, eqb}
+use lib.Dec.{eqb}
 use lib.ListN.{length}
-use borrow.Author.Tests.{ne_eqb, eq-eqb, eqb-true, lt-ltb}
+use borrow.Author.Tests.{eq-eqb, eqb-true}
 use Rattle.seq.specs.Lists.{all_of}
-use Rattle.seq.proofs.Tests.{and_both, and_left, and_right}
-use Rattle.hex_digits.specs.Hex.{is_digit, is_hex, bytes_of, sum8}
+use Rattle.seq.proofs.Tests.{and_left, and_right}
+use Rattle.hex_digits.specs.Hex.{is_digit, is_hex, bytes_of}
 use Rattle.hex_digits.specs.Frame.{body_of, is_checked, is_framed}
 use Rattle.line.specs.Calls.{call_in, call_kind, call_from, read_line}
-use Rattle.hex_digits.proofs.HexLaws.{not-second}
 use Rattle.framing.proofs.Framed.{unframed, of-body}
 
 -- Bytes that have no check byte are bad, and of any others the body is read.
@@ -24,15 +23,6 @@ unchecked bs e = rw e
 pub checked : (bs : List ℕ) → is_checked bs ≡ true → call_from bs ≡ call_in (body_of bs)
 unfolding call_from call_kind
 checked bs e = rw e
-
-pub no_bytes : (bs : List ℕ) → length bs ≡ 0 → call_from bs ≡ None
-no_bytes bs e = unchecked bs (rw e)
-
-pub bad_sum : (bs : List ℕ) → (sum8 bs ≡ 0 → ⊥) → call_from bs ≡ None
-bad_sum bs h = unchecked bs (not-second (ltb 0 (length bs)) (eqb (sum8 bs) 0) (ne_eqb (sum8 bs) 0 h))
-
-pub good-sum : (bs : List ℕ) → 0 < length bs → sum8 bs ≡ 0 → call_from bs ≡ call_in (body_of bs)
-good-sum bs h s = checked bs (and_both (lt-ltb 0 (length bs) h) (eq-eqb (sum8 bs) 0 s))
 
 -- A line is bad where a character is no digit, or one digit has no other to pair with.
 pub bad-digits : (cs : List ℕ) → is_hex cs ≡ false → read_line cs ≡ None

@@ -7,7 +7,8 @@ use Prim.Native.Nat.{ℕ, ◌<◌}
 use native.Mathlib.Omega.{arith}
 use lib.ListN.{length, get_or, length-reverse}
 use Rattle.seq.specs.Lists.{count_if, Distinct}
-use Rattle.seq.proofs.Orders.{get_d_reverse, count-reverse, mem-reverse, distinct-reverse}
+use Rattle.std.proofs.lemmas.List.{get_or-reverse}
+use Rattle.seq.proofs.Orders.{count-reverse, mem-reverse, distinct-reverse}
 use Rattle.passes.specs.declared.Direction.{Direction}
 use Rattle.passes.specs.InNumbers.{place_of}
 use Rattle.ordering.specs.Order.{Key}
@@ -35,5 +36,5 @@ place-below Direction.Up num i h = omega arith
 place-below Direction.Down num i h = h
 
 pub walked_at : (way : Direction) (ks : List Key) (i : ℕ) (d : Key) → i < length ks → get_or (walked way ks) i d ≡ get_or ks (place_of way (length ks) i) d
-walked_at Direction.Up ks i d h = get_d_reverse ks i d h
+walked_at Direction.Up ks i d h = get_or-reverse ks i d h
 walked_at Direction.Down ks i d h = refl

@@ -1,15 +1,12 @@
 -- Texts put into a buffer, one behind the other.
 -- Assumes nothing.
-use Prim.Native.Nat.{ℕ, zero, suc, ◌+◌, ◌-◌, ◌/◌, ◌%◌, ◌^◌, ◌≤◌, ◌<◌}
+use Prim.Native.Nat.{ℕ, ◌+◌, ◌-◌, ◌≤◌}
 use native.Mathlib.Omega.{arith}
 use mathlib.Core.Path.{◌≡◌, sym, ap, ◌∙◌}
-use mathlib.Core.Bool.{cond}
-use mathlib.Core.List.{List, [], ◌∷◌, ◌++◌, append_assoc}
+use mathlib.Core.List.{List, ◌++◌, append_assoc}
 use mathlib.Core.Bool as Bool
-use lib.Dec.{ltb}
 use lib.ListN.{length, length-append, take, drop}
-use lib.Seq.{sets, sets-eq, length-sets, take_all, paste, drop-drop}
-use borrow.Author.Tests.{lt-ltb, le-ltb}
+use lib.Seq.{sets, sets-eq, take_all, paste, drop-drop}
 use borrow.Rule.Slice.PartMut.{put_mid}
 use Rattle.seq.proofs.Stores.{sets-append}
 use Rattle.phrases.specs.Phrases.{Added}
@@ -32,9 +29,6 @@ added_then {bs} {mid} {after} {xs} {ys} {i} {m} {n} p q = record {
       ∙ sym (sets-append bs i xs ys);
   behind = let a = p.behind in let b = q.behind in let c = length-append xs ys in omega arith;
 }
-
-pub added-length : {bs after xs : List ℕ} {i n : ℕ} → Added bs i xs n after → length after ≡ length bs
-added-length {bs} {after} {xs} {i} p = ap length p.holds ∙ length-sets bs i xs
 
 -- A text at the front.
 pub added-front : {bs after text : List ℕ} {n : ℕ} → Added bs 0 text n after → n ≤ length bs → after ≡ text ++ drop n bs

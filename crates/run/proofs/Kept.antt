@@ -1,6 +1,5 @@
 -- Runs that agree in their machine and in what is kept of their unfinished line go on alike.
 -- Assumes nothing.
-use Rattle.std.specs.Prelude.{Option}
 use Prim.Native.Nat.{ℕ, zero, suc}
 use native.Mathlib.Omega.{arith}
 use mathlib.Core.Path.{◌≡◌, refl, sym, ap, ◌∙◌}
@@ -8,12 +7,8 @@ use mathlib.Core.Bool.{Bool, true, false, cond}
 use mathlib.Core.List.{List, [], ◌∷◌, ◌++◌}
 use lib.Dec.{eqb}
 use lib.ListN.{take}
-use Rattle.line.specs.declared.Call.{Call}
 use Rattle.line.specs.Calls.{read_line}
-use Rattle.line.specs.Answers.{answer_line}
 use Rattle.line.specs.Lines.{newline}
-use Rattle.machine.specs.declared.Machine.{Machine}
-use Rattle.machine.specs.Step.{step_line}
 use Rattle.run.specs.Run.{Runner, Fed, end_line, extend_line, feed_byte, feed, lacked_newline, finish}
 use Rattle.run.specs.Partial.{kept_length}
 use Rattle.run.proofs.PartialLaws.{kept-reads}
@@ -51,10 +46,6 @@ extend-alike {r} {s} c a =
           };
       written = refl;
     }
-
--- the end of a line, by the machine and what the line says
-abbrev end_of : Machine → Option Call → Fed
-end_of m l = record { runner = record { machine = (step_line m l).machine; line = [] }; written = answer_line (step_line m l).reply }
 
 end-alike : {r s : Runner} → Alike r s → FedAlike (end_line r) (end_line s)
 end-alike {r} {s} a =

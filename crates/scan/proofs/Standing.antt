@@ -1,6 +1,6 @@
 -- A good line at a place of a buffer: what its first digits tell, and that it ends where its kind says.
 -- Assumes nothing.
-use Rattle.std.proofs.Common.{◌≡◌, ℕ, suc, ◌+◌, ◌%◌, ◌<◌, ◌≤◌, Bool, true, false, cond, ltb, eqb, List, ◌∷◌, ◌++◌, length, get_or, take, drop, sym, refl, ap, subst, ◌∙◌, arith, lt-ltb, ltb-true, eqb-true}
+use Rattle.std.proofs.Common.{◌≡◌, ℕ, suc, ◌+◌, ◌%◌, ◌<◌, ◌≤◌, Bool, true, false, ltb, eqb, List, ◌∷◌, ◌++◌, length, get_or, take, drop, sym, refl, ap, subst, ◌∙◌, arith, lt-ltb, ltb-true, eqb-true}
 use Rattle.std.specs.Prelude.{Option, Some, None}
 use Rattle.std.proofs.lemmas.List.{take-append-drop, get_or-take}
 use lib.ListN.{length-drop}
@@ -15,7 +15,7 @@ use Rattle.framing.proofs.Standing.{first-newline}
 use Rattle.line.specs.declared.Call.{Call}
 use Rattle.line.specs.declared.Call.TheVariants.{Init, GetEmptyPic, PutPic, OutPic, RefpInit, PocDerivation}
 use Rattle.line.specs.Calls.{call_bytes, call_kind, read_line}
-use Rattle.line.specs.Lines.{whole_line, call_at}
+use Rattle.line.specs.Lines.{call_at}
 use Rattle.line.proofs.Bodies.{calls-faithful}
 use Rattle.line.proofs.Reading.{bad-digits}
 use Rattle.scan.specs.Kinds.{line_length}

@@ -12,7 +12,7 @@ use Rattle.std.specs.List.{position, position_or_len, list_any, count_by}
 use Rattle.std.proofs.lemmas.List.Sums.{sum_by-cons}
 use Rattle.std.proofs.lemmas.List.{map-id}
 use Rattle.seq.specs.Lists.{any_of, lowest, count_if, highest}
-use Rattle.seq.proofs.Walks.{found-any, lowest-none}
+use Rattle.seq.proofs.Walks.{found-any}
 
 hit : (b : Bool) (n i : ℕ) → cond b (Some n) None ≡ Some i → (b ≡ true) × (n ≡ i)
 hit true n i e = (refl, cc)
@@ -51,12 +51,6 @@ module _ {A B : Type 0} (f : A → B) (p : B → Bool) (q : A → Bool) (h : (x 
   place-through xs i h e =
       let l : position_or_len q xs < length xs = omega (arith, lowest-through xs) in
       rw (lt-ltb (position_or_len q xs) (length xs) l) (ap {B = Option ℕ} Some (sym (lowest-through xs) ∙ e))
-
-  pub not_found : (d : B) (xs : List A) → position q xs ≡ None → any_of p (map f xs) ≡ false
-  not_found d xs e =
-      let t = miss (ltb (position_or_len q xs) (length xs)) (position_or_len q xs) e in
-      let l : length xs ≤ position_or_len q xs = ltb-false _ _ t in
-      lowest-none d p (map f xs) (omega (arith, lowest-through xs, length-map xs f))
 
   pub any-through : (xs : List A) → any_of p (map f xs) ≡ list_any q xs
   unfolding any_of

@@ -6,7 +6,7 @@ use Prim.Native.Nat.{ℕ, zero, suc, ◌-◌, ◌≤◌, ◌<◌}
 use native.Mathlib.Nat.{le_of_suc-le-suc, not-suc-le-zero}
 use native.Mathlib.Omega.{arith}
 use lib.ListN.{length, drop, get_or}
-use Rattle.std.specs.Prelude.{Option, Some, None}
+use Rattle.std.specs.Prelude.{Option, Some}
 use Rattle.seq.specs.Lists.{any_of}
 use Rattle.seq.proofs.Walks.{highest-found}
 use Rattle.store.specs.Highest.{highest_place}
@@ -22,7 +22,3 @@ module _ {A : Type 0} (d : A) (p : A → Bool) where
   pub place-found : (xs : List A) (i : ℕ) → 0 < i → i ≤ length xs → any_of p (drop i xs) ≡ false → p (get_or xs (i - 1) d) ≡ true
       → Some (i - 1) ≡ highest_place p xs
   place-found xs i h l f e = rw (any_at xs (i - 1) (omega arith) e) (ap {B = Option ℕ} Some (highest-found d p xs i h l f e))
-
-  -- none passes
-  pub place_none : (xs : List A) → any_of p xs ≡ false → None ≡ highest_place p xs
-  place_none xs e = rw e

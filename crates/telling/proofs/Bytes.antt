@@ -12,7 +12,7 @@ use Rattle.phrases.specs.Phrases.{Added}
 use Rattle.phrases.proofs.Adding.{added-front}
 use Rattle.asking.specs.Asked.{Texts, texts}
 use Rattle.telling.specs.Told.{joined, next_number}
-use Rattle.telling.specs.Telling.{kept, most, piece_room, Speaker, speaker, Fed, fed, kept_more, feed_byte, feed, finish, HasRoom, Gives, Wrote}
+use Rattle.telling.specs.Telling.{kept, most, Speaker, speaker, Fed, fed, kept_more, feed_byte, feed, finish, Gives, Wrote}
 use Rattle.telling.specs.Laws.{feed-append}
 
 -- ---- a byte of the line
@@ -118,14 +118,6 @@ so-far-more told s piece i {t} {u} h f g =
       out_most = omega arith;
       err_most = omega arith;
     }
-
-pub so-far-room : {told : ℕ → List ℕ → Texts} {s : Speaker} (piece : List ℕ) (i : ℕ) {t : Fed} → i < length piece → length piece ≤ piece_room
-    → SoFar told s piece i t → HasRoom t
-so-far-room piece i h room f = let a = f.out_most in let b = f.err_most in record { out_room = omega arith; err_room = omega arith }
-
-pub so-far-all : {told : ℕ → List ℕ → Texts} {s : Speaker} (piece : List ℕ) (i : ℕ) {t : Fed} → length piece ≤ i → SoFar told s piece i t
-    → t ≡ feed told s piece
-so-far-all {told} {s} piece i h f = f.is ∙ ap (feed told s) (take_all i piece h)
 
 -- ---- the last line
 

@@ -19,9 +19,6 @@ module _ (rule : PassRule) (both : Bool) (way : Direction) (cnt bound key : ℕ)
   abbrev takes : Bool
   takes = takes_key (ask_in rule) way cnt bound (key_in key)
 
-  pub judged-taken : takes ≡ true → Reason.Taken cnt ≡ answer
-  judged-taken t = rw t
-
   module _ (t : takes ≡ false) where
     pub judged-full : rule.limit ≤ cnt → Reason.Full ≡ answer
     judged-full f = rw (t, le-leb rule.limit cnt f)

@@ -266,9 +266,6 @@ pub record Passing (keys : List ℕ) (t : Tally) (i : ℕ) : Type 0 where
   pub so_far : tally_all t (drop i keys) ≡ tally_all no_tally keys
 
 module _ (keys : List ℕ) where
-  pub passing-none : Passing keys no_tally 0
-  passing-none = record { few = omega arith; few_marked = omega arith; low_sum = omega arith; so_far = refl }
-
   pub passing-room : {t : Tally} {i : ℕ} → Passing keys t i → i ≤ slots → Roomy t
   passing-room p h =
       let f = p.few in

@@ -1,5 +1,5 @@
 -- `buffer::line_end` meets its contract. Assumes nothing.
-use Rattle.std.proofs.Common.{◌≡◌, ℕ, ◌+◌, ◌-◌, List, drop, length, sym, ap, ◌∙◌, arith}
+use Rattle.std.proofs.Common.{◌+◌, drop, sym, ap, ◌∙◌, arith}
 use lib.ListN.{length-drop}
 use Rattle.buffer.specs.Buffer.{is_newline}
 use Rattle.buffer.proofs.Newlines.{first-at, none-there, rest-is}

@@ -1,5 +1,5 @@
 -- `calls::refp_call` meets its contract. Assumes nothing.
-use mathlib.Core.Path.{refl, ◌∙◌}
+use mathlib.Core.Path.{refl}
 use Rattle.machine.proofs.Running.{lists-makes}
 use Rattle.refp.proofs.ListLaws.{on-whole}
 use Rattle.calls.proofs.refp_call.Goals as goal

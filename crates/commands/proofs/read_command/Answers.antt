@@ -1,6 +1,6 @@
 -- `read_command` meets its contract. The loop's invariant: stepping over the words that are left comes to stepping over all.
 -- Assumes nothing.
-use Rattle.std.proofs.Common.{rules, ◌≡◌, ◌<◌, length, refl, sym, ap, ◌∙◌, arith, Ok, Err}
+use Rattle.std.proofs.Common.{rules, ◌≡◌, ◌<◌, length, refl, ap, ◌∙◌, arith, Ok, Err}
 use borrow.Author.Tests.{tests}
 use Rattle.std.specs.List.{before_first}
 use Rattle.std.proofs.lemmas.Bool.Decides.{nat_tests}

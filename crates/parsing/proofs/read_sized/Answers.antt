@@ -1,9 +1,9 @@
 -- `parsing::read_sized` meets its contract. Assumes nothing.
-use Rattle.std.proofs.Common.{◌≡◌, Bool, true, false, ◌&&◌, eqb, length, ◌*◌, rules, sym, ap, ◌∙◌, eq-eqb}
+use Rattle.std.proofs.Common.{◌≡◌, true, ◌&&◌, eqb, length, ◌*◌, rules, sym, ap, ◌∙◌, eq-eqb}
 use Rattle.seq.proofs.Tests.{and_right}
 use Rattle.hex_digits.proofs.Tested.{test-failed, test-passed}
 use Rattle.hex_digits.specs.Frame.{is_framed}
-use Rattle.line.specs.Calls.{call_from, read_line}
+use Rattle.line.specs.Calls.{call_from}
 use Rattle.line.proofs.Reading.{not-framed, framed-bytes}
 use Rattle.parsing.proofs.read_sized.Goals as goal
 

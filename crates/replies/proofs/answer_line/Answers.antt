@@ -1,10 +1,10 @@
 -- `replies::answer_line` meets its contract: the line of the body fills the array. Assumes nothing.
-use Rattle.std.proofs.Common.{◌≡◌, ℕ, List, [], ◌∷◌, length, replicate, ◌∙◌, arith}
+use Rattle.std.proofs.Common.{ℕ, [], ◌∷◌, replicate, ◌∙◌, arith}
 use lib.ListN.{length-replicate, length-append}
 use Rattle.buffer.specs.Buffer.{newline}
 use Rattle.hex_digits.specs.Frame.{framed}
 use Rattle.buffer.proofs.Pasting.{paste_all}
-use Rattle.framing.specs.Framing.{whole_of, line_size}
+use Rattle.framing.specs.Framing.{whole_of}
 use Rattle.framing.proofs.Standing.{framed-size}
 use Rattle.line.specs.Answers.{reply_bytes, answer_digits, answer_line}
 use Rattle.replies.proofs.answer_line.Goals as goal

@@ -1,8 +1,7 @@
 -- `scan::read_line_at` meets its contract: each way out that finds none knows why no call line can stand there.
 -- Assumes nothing.
-use Rattle.std.proofs.Common.{◌≡◌, ℕ, ◌+◌, ◌-◌, List, length, take, drop, rules, sym, ap, ◌∙◌, arith}
+use Rattle.std.proofs.Common.{◌≡◌, ℕ, ◌-◌, List, length, take, drop, rules, sym, ◌∙◌, arith}
 use Rattle.std.specs.Prelude.{None}
-use lib.ListN.{length-drop}
 use Rattle.line.specs.Calls.{read_line}
 use Rattle.line.specs.Lines.{call_at}
 use Rattle.buffer.proofs.Newlines.{rest-is}

@@ -4,7 +4,7 @@ use native.Mathlib.Omega.{arith}
 use mathlib.Core.Path.{◌≡◌, refl, sym, ◌∙◌}
 use mathlib.Core.List.{List, append_assoc}
 use lib.ListN.{length, take, drop}
-use lib.Seq.{sets, sets-eq, drop-drop}
+use lib.Seq.{sets-eq, drop-drop}
 use borrow.Rule.Slice.PartMut.{put_mid}
 use Rattle.seq.specs.Lists.{Stored}
 use Rattle.def.specs.Word.{word_bytes}
