@@ -17,7 +17,7 @@ use writer::write_call;
 // How long a line may be.
 pub const LONGEST: usize = 1023;
 
-// The line of a call, newline and all, is no longer.
+// No line of a call is longer, newline and all.
 const MOST: usize = 32;
 
 pub type CallLine = ArrayVec<u8, MOST>;
@@ -29,9 +29,8 @@ fn call_line(call: Call) -> CallLine
     let mut bytes = [0; MOST];
     let written = write_call(call, &mut bytes);
     let mut line = ArrayVec::from_array_in((), bytes);
-    match written {
-        Ok(n) => line.truncate(n),
-        Err(_) => {}
+    if let Ok(n) = written {
+        line.truncate(n);
     }
     line
 }

@@ -2,25 +2,25 @@
 // The derivation, which goes a road of its own, stands in crate `recording`.
 #![tactic(auto)]
 
-ghost use Rattle.std.specs.Prelude.{◌≡◌, Some};
+ghost use Rattle.std.specs.Prelude.{◌≡◌};
 ghost use Rattle.line.specs.declared.Call.TheVariants.{Init, GetEmptyPic, OutPic, RefpInit};
 ghost use Rattle.call_lines.specs.PutLine.{put_line};
 
 use line::{Call, HIGHEST_FLAGS};
 
-pub fn init_line(max_pb_size: u8, max_num_ref_pics: u8) -> Option<Call>
-    ensures { result ≡ Some (Init max_pb_size max_num_ref_pics) }
+pub fn init_line(max_pb_size: u8, max_num_ref_pics: u8) -> Call
+    ensures { result ≡ Init max_pb_size max_num_ref_pics }
 {
-    Some(Call::Init {
+    Call::Init {
         max_pb_size,
         max_num_ref_pics,
-    })
+    }
 }
 
-pub fn get_line() -> Option<Call>
-    ensures { result ≡ Some GetEmptyPic }
+pub fn get_line() -> Call
+    ensures { result ≡ GetEmptyPic }
 {
-    Some(Call::GetEmptyPic)
+    Call::GetEmptyPic
 }
 
 // Flags that no call line may have make a bad line.
@@ -38,10 +38,10 @@ pub fn put_line(flags: u8, poc: u32, temporal_id: u8, ref_pic_gap_length: u32) -
     })
 }
 
-pub fn out_line() -> Option<Call>
-    ensures { result ≡ Some OutPic }
+pub fn out_line() -> Call
+    ensures { result ≡ OutPic }
 {
-    Some(Call::OutPic)
+    Call::OutPic
 }
 
 pub fn lists_line(
@@ -50,14 +50,14 @@ pub fn lists_line(
     layer_id: u8,
     last_intra: u32,
     max_num_ref_pics: u8,
-) -> Option<Call>
-    ensures { result ≡ Some (RefpInit slice_type poc layer_id last_intra max_num_ref_pics) }
+) -> Call
+    ensures { result ≡ RefpInit slice_type poc layer_id last_intra max_num_ref_pics }
 {
-    Some(Call::RefpInit {
+    Call::RefpInit {
         slice_type,
         poc,
         layer_id,
         last_intra,
         max_num_ref_pics,
-    })
+    }
 }

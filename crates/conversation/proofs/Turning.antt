@@ -57,13 +57,13 @@ module _ {T : Type 0} {Hears : T → List ℕ → T → Type 0} {output messages
   }
 
 module _ {T : Type 0} {Hears : T → List ℕ → T → Type 0} {Ends : T → T → Type 0} {output messages : T → List ℕ}
-    {left left' wrote wrote' said said' : Option (List ℕ)} {s t : T} {n : ℕ}
+    {room : ℕ} {left left' wrote wrote' said said' : Option (List ℕ)} {s t : T} {n : ℕ}
     (r : Reached Hears output messages left left' wrote wrote' said said' s n t) where
   -- ---- what ends it, `answer` being what the last read or write came to
 
   pub read-failed : {left'' : Option (List ℕ)} (piece : List ℕ) (answer : Result ℕ Error) {r' : Result (Unit {0}) Stop}
       → MatchResult answer (λ n. ⊥) (λ e. r' ≡ Err (Read e)) → ReadConsumes left' left'' answer piece → (IsInterrupted answer → ⊥)
-      → Conversed Hears Ends output messages left left'' wrote wrote' said said' s r' t
+      → Conversed Hears Ends output messages room left left'' wrote wrote' said said' s r' t
   read-failed piece (Ok n) w k p = absurd w
   read-failed {left''} piece (Err e) w k p = rw w (record {
     made = n;
@@ -74,7 +74,7 @@ module _ {T : Type 0} {Hears : T → List ℕ → T → Type 0} {Ends : T → T 
     reads = consumes-kept left left' left'' r.input r.reads k;
     writes = r.writes;
     front = r.front;
-    at_end = λ f. cc;
+    at_end = λ some f. cc;
     patient = p;
     used_up = λ f. cc;
   })
@@ -82,7 +82,7 @@ module _ {T : Type 0} {Hears : T → List ℕ → T → Type 0} {Ends : T → T 
   pub write-failed : {left'' wrote'' said'' : Option (List ℕ)} {u : T} (answer : Result (Unit {0}) Error) {r' : Result (Unit {0}) Stop} (piece : List ℕ)
       → MatchResult answer (λ n. ⊥) (λ e. r' ≡ Err (Write e)) → 0 < length piece → Consumes left' left'' piece → Hears t piece u
       → OnErr answer (AppendsFront wrote' wrote'' (output u)) → AppendsFront said' said'' (messages u)
-      → Conversed Hears Ends output messages left left'' wrote wrote'' said said'' s r' u
+      → Conversed Hears Ends output messages room left left'' wrote wrote'' said said'' s r' u
   write-failed (Ok x) piece w some c h a f = absurd w
   write-failed {left''} {wrote''} {u = u} (Err e) piece w some c h a f = rw w (record {
     made = n + 1;
@@ -93,15 +93,15 @@ module _ {T : Type 0} {Hears : T → List ℕ → T → Type 0} {Ends : T → T 
     reads = consumes-more left left' left'' r.input piece r.reads c;
     writes = front-more wrote wrote' wrote'' r.out (output u) r.writes a;
     front = next_front r.front f;
-    at_end = λ g. cc;
+    at_end = λ some g. cc;
     patient = tt;
     used_up = λ g. cc;
   })
 
   pub ended : {left'' wrote'' said'' : Option (List ℕ)} {u : T} (answer : Result (Unit {0}) Error) {r' : Result (Unit {0}) Stop}
-      → MatchResult answer (λ x. r' ≡ Ok x) (λ e. r' ≡ Err (LastWrite e)) → Consumes left' left'' [] → IsAtEnd left'' → Ends t u
+      → MatchResult answer (λ x. r' ≡ Ok x) (λ e. r' ≡ Err (LastWrite e)) → Consumes left' left'' [] → (0 < room → IsAtEnd left'') → Ends t u
       → OnOk answer (Appends wrote' wrote'' (output u)) → OnErr answer (AppendsFront wrote' wrote'' (output u)) → AppendsFront said' said'' (messages u)
-      → Conversed Hears Ends output messages left left'' wrote wrote'' said said'' s r' u
+      → Conversed Hears Ends output messages room left left'' wrote wrote'' said said'' s r' u
   ended {left''} {wrote''} {u = u} (Ok x) w c e h a b f = rw w (record {
     made = n;
     input = r.input;
@@ -111,7 +111,7 @@ module _ {T : Type 0} {Hears : T → List ℕ → T → Type 0} {Ends : T → T 
     reads = consumes-same left left' left'' r.input r.reads c;
     writes = appends-more wrote wrote' wrote'' r.out (output u) r.writes a;
     front = next_front r.front f;
-    at_end = λ g. e;
+    at_end = λ some g. e some;
     patient = tt;
     used_up = λ g. cc;
   })
@@ -124,12 +124,12 @@ module _ {T : Type 0} {Hears : T → List ℕ → T → Type 0} {Ends : T → T 
     reads = consumes-same left left' left'' r.input r.reads c;
     writes = front-more wrote wrote' wrote'' r.out (output u) r.writes b;
     front = next_front r.front f;
-    at_end = λ g. e;
+    at_end = λ some g. e some;
     patient = tt;
     used_up = λ g. cc;
   })
 
-  pub all-used : n ≡ most_turns → Conversed Hears Ends output messages left left' wrote wrote' said said' s (Err UsedUp) t
+  pub all-used : n ≡ most_turns → Conversed Hears Ends output messages room left left' wrote wrote' said said' s (Err UsedUp) t
   all-used e = record {
     made = n;
     input = r.input;
@@ -139,7 +139,7 @@ module _ {T : Type 0} {Hears : T → List ℕ → T → Type 0} {Ends : T → T 
     reads = r.reads;
     writes = r.writes;
     front = r.front;
-    at_end = λ g. cc;
+    at_end = λ some g. cc;
     patient = tt;
     used_up = λ g. e;
   }
@@ -165,17 +165,18 @@ turns-begin {output = output} whole on {s = s} (next_turn {t = t} {u} {input = i
     ∙ ap (λ (w : List ℕ). out ++ w) (on t u piece rest h)
     ∙ sym (append_assoc out (output u) (whole u rest))
 
+-- The output and the messages change places.
+swapped : {T : Type 0} {Hears : T → List ℕ → T → Type 0} {output messages : T → List ℕ} {s t : T} {n : ℕ} {input out err : List ℕ}
+    → Turns Hears output messages s n input out err t → Turns Hears messages output s n input err out t
+swapped no_turn = no_turn
+swapped (next_turn piece before some h) = next_turn piece (swapped before) some h
+
 -- The same of the messages.
 pub turns-complain : {T : Type 0} {Hears : T → List ℕ → T → Type 0} {output messages : T → List ℕ} (whole : T → List ℕ → List ℕ)
     → ((s t : T) (piece rest : List ℕ) → Hears s piece t → whole s (piece ++ rest) ≡ messages t ++ whole t rest)
     → {s t : T} {n : ℕ} {input out err : List ℕ} → Turns Hears output messages s n input out err t
     → (rest : List ℕ) → whole s (input ++ rest) ≡ err ++ whole t rest
-turns-complain whole on no_turn rest = refl
-turns-complain {messages = messages} whole on {s = s} (next_turn {t = t} {u} {input = input} {err = err} piece before some h) rest =
-    ap (whole s) (append_assoc input piece rest)
-    ∙ turns-complain whole on before (piece ++ rest)
-    ∙ ap (λ (w : List ℕ). err ++ w) (on t u piece rest h)
-    ∙ sym (append_assoc err (messages u) (whole u rest))
+turns-complain whole on turns rest = turns-begin whole on (swapped turns) rest
 
 module _ {T : Type 0} {Hears : T → List ℕ → T → Type 0} {Ends : T → T → Type 0} {output messages : T → List ℕ} (tells complains : T → List ℕ → List ℕ)
     (on : (s t : T) (piece rest : List ℕ) → Hears s piece t
@@ -197,24 +198,24 @@ module _ {T : Type 0} {Hears : T → List ℕ → T → Type 0} {Ends : T → T 
   begun b e (stopped turns) rest = turns-begin tells (λ a b p r h. (on a b p r h).0) turns rest
   begun b e (to_the_end turns ends) rest = cc
 
-  pub conversed-all : (left : Option (List ℕ)) {left' wrote wrote' said said' : Option (List ℕ)} {s t : T} (r : Result (Unit {0}) Stop)
-      → Conversed Hears Ends output messages left left' wrote wrote' said said' s r t
+  pub conversed-all : {room : ℕ} → 0 < room → (left : Option (List ℕ)) {left' wrote wrote' said said' : Option (List ℕ)} {s t : T} (r : Result (Unit {0}) Stop)
+      → Conversed Hears Ends output messages room left left' wrote wrote' said said' s r t
       → OnOk r (IfSome left (λ bytes. Appends wrote wrote' (tells s bytes) × Fronts said said' (complains s bytes)))
-  conversed-all left (Err e) k = tt
-  conversed-all None (Ok u) k = tt
-  conversed-all (Some xs) {left'} {wrote} {wrote'} {said} {said'} {s} (Ok u) k =
+  conversed-all more left (Err e) k = tt
+  conversed-all more None (Ok u) k = tt
+  conversed-all more (Some xs) {left'} {wrote} {wrote'} {said} {said'} {s} (Ok u) k =
       let is = all-given true refl k.course in
-      let read = all-read xs left' k.input k.reads (k.at_end refl) in (
+      let read = all-read xs left' k.input k.reads (k.at_end more refl) in (
         subst (λ (w : List ℕ). Appends wrote wrote' w) (sym is.0 ∙ ap (tells s) (sym read)) k.writes,
         subst (λ (w : List ℕ). Fronts said said' w) (sym is.1 ∙ ap (complains s) (sym read)) k.front,
       )
 
   -- A beginning of a beginning, or of the whole.
-  pub conversed-begins : (left : Option (List ℕ)) {left' wrote wrote' said said' : Option (List ℕ)} {s t : T} (r : Result (Unit {0}) Stop)
-      → Conversed Hears Ends output messages left left' wrote wrote' said said' s r t
+  pub conversed-begins : {room : ℕ} → 0 < room → (left : Option (List ℕ)) {left' wrote wrote' said said' : Option (List ℕ)} {s t : T} (r : Result (Unit {0}) Stop)
+      → Conversed Hears Ends output messages room left left' wrote wrote' said said' s r t
       → IfSome left (λ bytes. AppendsFront wrote wrote' (tells s bytes))
-  conversed-begins None r k = tt
-  conversed-begins (Some xs) {left'} {wrote} {wrote'} {s = s} {t} r k = by (is_final r) refl k.course
+  conversed-begins more None r k = tt
+  conversed-begins more (Some xs) {left'} {wrote} {wrote'} {s = s} {t} r k = by (is_final r) refl k.course
     where
       got : AppendsFront wrote wrote' k.out
       got = wrote-front r k.writes
@@ -222,7 +223,7 @@ module _ {T : Type 0} {Hears : T → List ℕ → T → Type 0} {Ends : T → T 
       by : (b : Bool) → is_final r ≡ b → Course Hears Ends output messages s b k.made k.input k.out k.err t → AppendsFront wrote wrote' (tells s xs)
       by true e course =
           let is = all-given true refl course in
-          let read = all-read xs left' k.input k.reads (k.at_end e) in
+          let read = all-read xs left' k.input k.reads (k.at_end more e) in
           subst (λ (w : List ℕ). AppendsFront wrote wrote' w) (sym is.0 ∙ ap (tells s) (sym read)) got
       by false e course = some left' k.reads
         where

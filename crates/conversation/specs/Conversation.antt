@@ -58,9 +58,10 @@ NotInterrupted (Err (LastWrite e)) = ⊤
 NotInterrupted (Err UsedUp) = ⊤
 
 -- What was read is what the reader lost, and what was given is what the writers got, where the bytes of each are known. The loop stops
--- at the end of the input, at a failure that no signal caused, or where the turns are used up.
+-- at the end of the input, at a failure that no signal caused, or where the turns are used up. Where there is no `room` for a byte, a read
+-- that brings nothing says nothing of the end.
 pub record Conversed {T : Type 0} (Hears : T → List ℕ → T → Type 0) (Ends : T → T → Type 0) (output messages : T → List ℕ)
-    (left left' wrote wrote' said said' : Option (List ℕ)) (s : T) (r : Result (Unit {0}) Stop) (t : T) : Type 0 where
+    (room : ℕ) (left left' wrote wrote' said said' : Option (List ℕ)) (s : T) (r : Result (Unit {0}) Stop) (t : T) : Type 0 where
   pub made : ℕ
   pub input : List ℕ
   pub out : List ℕ
@@ -69,6 +70,6 @@ pub record Conversed {T : Type 0} (Hears : T → List ℕ → T → Type 0) (End
   pub reads : Consumes left left' input
   pub writes : Wrote r wrote wrote' out
   pub front : Fronts said said' err
-  pub at_end : is_final r ≡ true → IsAtEnd left'
+  pub at_end : 0 < room → is_final r ≡ true → IsAtEnd left'
   pub patient : NotInterrupted r
   pub used_up : r ≡ Err UsedUp → made ≡ most_turns

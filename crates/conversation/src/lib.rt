@@ -70,8 +70,7 @@ impl fmt::Display for Stop {
     fn fmt<W: fmt::Write>(&self, f: &mut fmt::Formatter<W>) -> fmt::Result {
         match self {
             Stop::Read(e) => write!(f, "read: {e}"),
-            Stop::Write(e) => write!(f, "write: {e}"),
-            Stop::LastWrite(e) => write!(f, "write: {e}"),
+            Stop::Write(e) | Stop::LastWrite(e) => write!(f, "write: {e}"),
             Stop::UsedUp => write!(f, "read: no more turns"),
         }
     }
@@ -92,8 +91,9 @@ fn deliver<T: Teller, W: Write, E: Write>(
 }
 
 // Reads to the end of the input, and writes what the teller gives to each piece before the next read; `piece` is room for what one read
-// brings. A read or a write that fails ends it: answers behind a lost one would be taken for others. A proved loop has to end, and nothing
-// says that an input does, so the turns are counted, up to a number that no run uses up.
+// brings; with no room, the first read is taken for the end. A read or a write that fails ends it: answers behind a lost one would be
+// taken for others. A proved loop has to end, and nothing says that an input does, so the turns are counted, up to a number that no run
+// uses up.
 pub fn converse<T: Teller, R: Read, W: Write, E: Write>(
     teller: &mut T,
     piece: &mut [u8],
@@ -101,14 +101,13 @@ pub fn converse<T: Teller, R: Read, W: Write, E: Write>(
     output: &mut W,
     errors: &mut E,
 ) -> Result<(), Stop>
-    requires some { 0 < length piece.old }
     requires room { length piece.old ≤ T.room }
-    ensures conversed { Conversed T.Hears T.Ends T.output T.messages (R.remaining input.old) (R.remaining input.new)
+    ensures conversed { Conversed T.Hears T.Ends T.output T.messages (length piece.old) (R.remaining input.old) (R.remaining input.new)
         (W.contents output.old) (W.contents output.new) (E.contents errors.old) (E.contents errors.new) teller.old result teller.new }
-    ensures all { OnOk result (IfSome (R.remaining input.old) (λ bytes.
+    ensures all { 0 < length piece.old → OnOk result (IfSome (R.remaining input.old) (λ bytes.
         Appends (W.contents output.old) (W.contents output.new) (T.tells teller.old bytes)
         × Fronts (E.contents errors.old) (E.contents errors.new) (T.complains teller.old bytes))) }
-    ensures beginning { IfSome (R.remaining input.old) (λ bytes.
+    ensures beginning { 0 < length piece.old → IfSome (R.remaining input.old) (λ bytes.
         AppendsFront (W.contents output.old) (W.contents output.new) (T.tells teller.old bytes)) }
 {
     for _turn in 0..=u64::MAX {

@@ -5,8 +5,9 @@ ghost use Rattle.conversation.specs.Pouring.{AppendsFront, FallsShort};
 
 use std::io::{self, ErrorKind, Write};
 
-// Writes all of the bytes, or fails with a beginning of them written and some left. A write that a signal interrupts is repeated; a
-// proved loop has to end, so the writes are counted, up to a number that no run uses up.
+// Writes all of the bytes, or fails with a beginning of them written and some left: std's `write_all` does not say what went out where it
+// failed. A write that a signal interrupts is repeated; a proved loop has to end, so the writes are counted, up to a number that no run
+// uses up.
 pub fn write_whole<W: Write>(output: &mut W, bytes: &[u8]) -> io::Result<()>
     ensures ok { OnOk result (Appends (W.contents output.old) (W.contents output.new) bytes.now) }
     ensures err { OnErr result (AppendsFront (W.contents output.old) (W.contents output.new) bytes.now) }

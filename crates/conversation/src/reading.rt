@@ -6,6 +6,7 @@ ghost use Rattle.conversation.specs.Reading.{IsInterrupted};
 
 use std::io::{self, ErrorKind, Read};
 
+// A function of its own, whose contract says what is repeated.
 fn interrupted(answer: &io::Result<usize>) -> bool
     ensures { IsTrue result ↔ IsInterrupted answer.now }
 {

@@ -1,9 +1,9 @@
 // Pairs of digits decoded into bytes. Reading a framed line calls this; it has tested the lengths.
 #![tactic(auto)]
 
-ghost use Rattle.std.specs.Prelude.{◌≡◌, ◌+◌, ◌*◌, ◌&&◌, cond, length, Some, None};
+ghost use Rattle.std.specs.Prelude.{◌≡◌, ◌+◌, ◌*◌, ◌%◌, ◌&&◌, cond, length, Some, None};
 ghost use Rattle.seq.specs.Lists.{all_of};
-ghost use Rattle.hex_digits.specs.Hex.{is_digit, digit_value, bytes_of};
+ghost use Rattle.hex_digits.specs.Hex.{is_digit, digit_value, bytes_of, sum8};
 
 use hex_digits::char_value;
 
@@ -14,7 +14,7 @@ fn pair_value(high: u8, low: u8) -> Option<u8>
 {
     let high_value = char_value(high);
     let low_value = char_value(low);
-    if (high_value < 16) & (low_value < 16) {
+    if high_value < 16 && low_value < 16 {
         Some(16 * high_value + low_value)
     } else {
         None
@@ -32,4 +32,17 @@ pub fn decode<const N: usize>(digits: &[u8]) -> Option<[u8; N]>
         bytes[i] = pair_value(digits[2 * i], digits[2 * i + 1])?;
     }
     Some(bytes)
+}
+
+/// The sum, wrapping at 256, of the bytes that pairs of digits stand for, where all are digits.
+pub fn decoded_sum(digits: &[u8]) -> Option<u8>
+    requires { length digits.now % 2 ≡ 0 }
+    ensures { let characters = digits.now in
+        result ≡ cond (all_of is_digit characters) (Some (sum8 (bytes_of characters))) None }
+{
+    let mut sum: u8 = 0;
+    for i in 0..digits.len() / 2 {
+        sum = sum.wrapping_add(pair_value(digits[2 * i], digits[2 * i + 1])?);
+    }
+    Some(sum)
 }

@@ -6,9 +6,10 @@ ghost use Rattle.std.specs.Prelude.{◌≡◌, ◌+◌, ◌*◌, ◌≤◌, [], 
 ghost use Rattle.std.proofs.Math.Seq.{paste};
 ghost use Rattle.seq.specs.Lists.{Stored};
 ghost use Rattle.hex_digits.specs.Hex.{digits_of};
+ghost use Rattle.hex_digits.specs.Frame.{is_framed};
 ghost use Rattle.framing.specs.Framing.{bytes_framed, line_size, whole_of};
 
-use decoding::decode;
+use decoding::{decode, decoded_sum};
 use hex_digits::digit_pair;
 use summing::{check_byte, is_checked};
 
@@ -24,6 +25,19 @@ pub fn read_framed<const N: usize>(digits: &[u8]) -> Option<[u8; N]>
         Some(bytes)
     } else {
         None
+    }
+}
+
+/// Whether characters, however many, are a framed line.
+pub fn is_framed(digits: &[u8]) -> bool
+    ensures { result ≡ is_framed digits.now }
+{
+    if digits.len() % 2 != 0 {
+        return false;
+    }
+    match decoded_sum(digits) {
+        Some(sum) => !digits.is_empty() && sum == 0,
+        None => false,
     }
 }
 

@@ -24,7 +24,8 @@ pub fn add(out: &mut [u8], at: usize, text: &[u8]) -> usize
     end
 }
 
-// Puts a number in decimal behind a text.
+// Puts a number in decimal behind a text. Not by `write!`: it promises its text only where it gives Ok, and no clause says when it does;
+// likewise wherever words are put together.
 pub fn push_number<const N: usize>(text: &mut ArrayString<N>, n: u64)
     requires { array_string_len text.old + 20 ≤ N }
     ensures pushed { text.new.bytes ≡ text.old.bytes ++ decimal n }

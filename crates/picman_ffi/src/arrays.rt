@@ -53,7 +53,7 @@ pub extern "C" fn picman_machine_init(
         keys,
         rows,
         registers,
-        init_line(max_pb_size, max_num_ref_pics),
+        Some(init_line(max_pb_size, max_num_ref_pics)),
     )
 }
 
@@ -68,7 +68,7 @@ pub extern "C" fn picman_machine_get(
         let after = slices keys.new rows.new registers.new in
         OnSlices result (Some GetEmptyPic) before after }
 {
-    answer_on(keys, rows, registers, get_line())
+    answer_on(keys, rows, registers, Some(get_line()))
 }
 
 // Puts the leased picture into the store; flags above 15 give 18.
@@ -105,7 +105,7 @@ pub extern "C" fn picman_machine_out(
         let after = slices keys.new rows.new registers.new in
         OnSlices result (Some OutPic) before after }
 {
-    answer_on(keys, rows, registers, out_line())
+    answer_on(keys, rows, registers, Some(out_line()))
 }
 
 // Builds the reference lists of a slice.
@@ -128,7 +128,7 @@ pub extern "C" fn picman_machine_lists(
         keys,
         rows,
         registers,
-        lists_line(slice_type, poc, layer_id, last_intra, max_num_ref_pics),
+        Some(lists_line(slice_type, poc, layer_id, last_intra, max_num_ref_pics)),
     )
 }
 

@@ -36,10 +36,7 @@ fn question_of(call: Call) -> Option<RefpCall>
 pub fn question_in(call: &[u8]) -> Option<RefpCall>
     ensures { result ≡ question_in (call_from call.now) }
 {
-    match read_call(call) {
-        Some(good) => question_of(good),
-        None => None,
-    }
+    question_of(read_call(call)?)
 }
 
 // By a table: one of them carries a place, so that they have no numbers of their own.

@@ -10,10 +10,11 @@ use Rattle.line.specs.Answers.{answer_kind}
 use Rattle.line.specs.declared.Reply.{Reply}
 use Rattle.reader.specs.declared.BadLine.{BadLine}
 
--- What a line says that begins at a place.
+-- That no answer line begins at a place.
 abbrev pub bad_line : ℕ → BadLine
 bad_line at = record { at = at }
 
+-- What a line says that begins at a place.
 abbrev pub read_line_as : ℕ → List ℕ → Result Reply BadLine
 read_line_as at cs = ok_or (from_line answer_kind cs) (bad_line at)
 

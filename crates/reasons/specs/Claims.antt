@@ -1,8 +1,7 @@
 -- What is claimed of the answer. Each claim has its proof under its own name: proofs/Refusing.antt, proofs/Row.antt, proofs/Places.antt,
 -- proofs/Limits.antt.
 -- Assumes nothing.
-use Rattle.std.specs.Prelude.{Ok, Err}
-use Rattle.std.specs.Prelude.{ℕ, ◌+◌, ◌≤◌, ◌<◌, ◌≡◌, true, false, List, ◌↔◌, length, take, get_or}
+use Rattle.std.specs.Prelude.{ℕ, ◌+◌, ◌≤◌, ◌<◌, ◌≡◌, true, false, List, ◌↔◌, length, take, get_or, Ok, Err}
 use Rattle.def.specs.State.{list_places, highest_poc, no_slot, no_ref_p, is_present, is_marked}
 use Rattle.def.specs.declared.{Slot.Slot, EvcPm.EvcPm, EvcRefP.EvcRefP, RefpCall.RefpCall, Answer.Answer, Refusal.Refusal}
 use Rattle.def.specs.Results.{RefpResult}

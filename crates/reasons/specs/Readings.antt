@@ -1,8 +1,7 @@
 -- The smallest inputs that tell the readings of the request apart, with what is said of each: one list, one computed proof.
 -- Proof: proofs/Readings.antt.
 -- Assumes nothing.
-use Rattle.std.specs.Prelude.{Result, Ok, Err}
-use Rattle.std.specs.Prelude.{ℕ, ◌≡◌, Bool, true, false, List, [], ◌∷◌, map, pos, replicate}
+use Rattle.std.specs.Prelude.{ℕ, ◌≡◌, Bool, true, false, List, [], ◌∷◌, map, pos, replicate, Result, Ok, Err}
 use Rattle.def.specs.State.{list_places, empty_slot, occupied_by, new_pm, with_store}
 use Rattle.def.specs.declared.{Slot.Slot, EvcPm.EvcPm, RefpCall.RefpCall, Refusal.Refusal, SliceType.SliceType}
 use Rattle.reasons.specs.declared.Reason.{Reason}

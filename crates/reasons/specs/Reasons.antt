@@ -1,8 +1,7 @@
 -- Why a picture of the state is or is not in the forward list that a list call builds. A picture has its turn in one pass of the list; the
 -- reason is the earliest of a row of conditions on how far that pass has come by then.
 -- Assumes nothing.
-use Rattle.std.specs.Prelude.{Result, Ok, Err}
-use Rattle.std.specs.Prelude.{ℕ, Bool, cond, not, ◌&&◌, List, [], ◌∷◌, leb, ltb, eqb, length, get_or}
+use Rattle.std.specs.Prelude.{ℕ, Bool, cond, not, ◌&&◌, List, [], ◌∷◌, leb, ltb, eqb, length, get_or, Result, Ok, Err}
 use Rattle.def.specs.State.{highest_poc, no_slot, is_present, is_marked}
 use Rattle.def.specs.declared.{Slot.Slot, EvcPm.EvcPm, RefpCall.RefpCall, Refusal.Refusal}
 use Rattle.whole.specs.Whole.{whole}

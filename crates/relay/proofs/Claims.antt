@@ -1,6 +1,6 @@
 -- What the loop gives to be written is what the lines of the input give.
 -- Assumes nothing.
-use Rattle.std.proofs.Common.{◌≡◌, ℕ, List, [], ◌++◌, sym, ap, ◌∙◌, subst, append-nil}
+use Rattle.std.proofs.Common.{◌≡◌, ℕ, List, [], ◌++◌, sym, ap, ◌∙◌, subst, append-nil, arith}
 use Rattle.std.specs.Prelude.{Option, None, Some, IfSome, OnOk, Result, Ok, Err}
 use Rattle.std.specs.Io.KnownBytes.{Appends}
 use Rattle.conversation.specs.Pouring.{AppendsFront}
@@ -64,9 +64,9 @@ begun-told told enough (Some bytes) wrote wrote' h =
 pub relay-passes : RelayPasses
 relay-passes told enough left left' wrote wrote' said said' r p =
     all-told told enough left wrote wrote' said said' r
-    (conversed-all (tells told) (complains told) (lines-hear-on told) (lines-end-so told) left r p.relayed)
+    (conversed-all (tells told) (complains told) (lines-hear-on told) (lines-end-so told) (omega arith) left r p.relayed)
 
 pub relay-passes-front : RelayPassesFront
 relay-passes-front told enough left left' wrote wrote' said said' r p =
     begun-told told enough left wrote wrote'
-    (conversed-begins (tells told) (complains told) (lines-hear-on told) (lines-end-so told) left r p.relayed)
+    (conversed-begins (tells told) (complains told) (lines-hear-on told) (lines-end-so told) (omega arith) left r p.relayed)

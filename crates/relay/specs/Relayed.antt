@@ -4,7 +4,7 @@ use Rattle.std.specs.Prelude.{ℕ, ◌≡◌, List, Option, Result, take}
 use Rattle.conversation.specs.declared.Stop.{Stop}
 use Rattle.conversation.specs.Conversation.{Turns, Conversed}
 use Rattle.asking.specs.Asked.{Texts}
-use Rattle.telling.specs.Telling.{kept, Fed, new_telling, HearsLines, EndsLines}
+use Rattle.telling.specs.Telling.{kept, piece_room, Fed, new_telling, HearsLines, EndsLines}
 
 -- Of a line no more counts than what is kept of it.
 abbrev pub KeptTells : (ℕ → List ℕ → Texts) → Type 0
@@ -22,4 +22,4 @@ LineTurns told = Turns (HearsLines told) out_of err_of
 -- The turns, and where the input has ended its last line; and what was read and written of them.
 pub record RelayedNew (told : ℕ → List ℕ → Texts) (left left' wrote wrote' said said' : Option (List ℕ)) (r : Result (Unit {0}) Stop) : Type 0 where
   pub last : Fed
-  pub relayed : Conversed (HearsLines told) (EndsLines told) out_of err_of left left' wrote wrote' said said' new_telling r last
+  pub relayed : Conversed (HearsLines told) (EndsLines told) out_of err_of piece_room left left' wrote wrote' said said' new_telling r last

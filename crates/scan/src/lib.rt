@@ -7,7 +7,7 @@ ghost use Rattle.line.specs.Lines.{call_at};
 ghost use Rattle.scan.specs.Kinds.{line_length};
 
 use line::Call;
-use parsing::read_line;
+use parsing::{LONGEST_LINE, read_line};
 
 // How many digits the line of a kind has, by the second digit of its call byte; none is of another kind.
 fn line_length(kind: u8) -> Option<usize>
@@ -17,7 +17,7 @@ fn line_length(kind: u8) -> Option<usize>
         b'2' | b'4' => Some(4),
         b'1' | b'6' => Some(8),
         b'3' => Some(24),
-        b'5' => Some(26),
+        b'5' => Some(LONGEST_LINE),
         _ => None,
     }
 }

@@ -48,17 +48,37 @@ impl Model for CallTeller {
 }
 
 impl CallTeller {
+    ghost use Rattle.std.specs.Prelude.{◌≡◌, []};
+    ghost use Rattle.run.specs.Session.{runner_in, SoundSession};
+    ghost use Rattle.service.specs.Calls.{new_run};
+
     // The new machine, before any line.
     pub fn new() -> CallTeller
         ensures { result ≡ new_run }
     {
+        CallTeller::from_session([0; SLOTS], [0; ROWS], new_session())
+    }
+
+    // A run that goes on where another stands.
+    pub fn from_session(keys: [u64; SLOTS], rows: [u32; ROWS], session: Session) -> CallTeller
+        requires { SoundSession keys rows session }
+        ensures { result ≡ record { runner = runner_in keys rows session; written = [] } }
+    {
         CallTeller {
-            keys: [0; SLOTS],
-            rows: [0; ROWS],
-            session: new_session(),
+            keys,
+            rows,
+            session,
             out: [0; ANSWERS],
             len: 0,
         }
+    }
+
+    // Where the run stands.
+    pub fn session(&self) -> (&[u64; SLOTS], &[u32; ROWS], &Session)
+        ensures stands { runner_in result.0.now result.1.now result.2.now ≡ self.now.runner }
+        ensures sound { SoundSession result.0.now result.1.now result.2.now }
+    {
+        (&self.keys, &self.rows, &self.session)
     }
 }
 

@@ -18,7 +18,7 @@ pub fn sum8(bytes: &[u8]) -> u8
 pub fn is_checked(bytes: &[u8]) -> bool
     ensures { result ≡ is_checked bytes.now }
 {
-    !bytes.is_empty() & (sum8(bytes) == 0)
+    !bytes.is_empty() && sum8(bytes) == 0
 }
 
 /// The check byte of a body: it brings the sum to zero.

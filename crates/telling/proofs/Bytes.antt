@@ -5,8 +5,8 @@ use native.Mathlib.Numerals.{add-one}
 use native.Mathlib.Omega.{arith}
 use mathlib.Core.Path.{◌≡◌, refl, sym, ap, ◌∙◌}
 use mathlib.Core.List.{List, [], ◌∷◌, ◌++◌, append_assoc, append-nil}
-use lib.ListN.{length, get_or, take, drop, set, length-append, length-drop}
-use lib.Seq.{take_all, take_at, take-suc, take-suc-set, length-take-le}
+use lib.ListN.{length, get_or, take, drop, length-append, length-drop}
+use lib.Seq.{take_all, take_at, take-suc, length-take-le}
 use borrow.Rule.Slice.PartMut.{mid_of, post_of, put_mid}
 use Rattle.phrases.specs.Phrases.{Added}
 use Rattle.phrases.proofs.Adding.{added-front}
@@ -17,19 +17,14 @@ use Rattle.telling.specs.Laws.{feed-append}
 
 -- ---- a byte of the line
 
-pub keep-more : (held : List ℕ) (len c number : ℕ) (t : Texts) → length held ≡ kept → len < kept
-    → fed (speaker (take (len + 1) (set held len c)) number) t ≡ kept_more (fed (speaker (take len held) number) t) c
-keep-more held len c number t long h =
-    let front : take (len + 1) (set held len c) ≡ take len held ++ (c ∷ []) = rw add-one (take-suc-set held len c (omega arith)) in
-    let size = length-append (take len held) (c ∷ []) in
-    let short = length-take-le len held (omega arith) in
-    ap (λ (l : List ℕ). fed (speaker l number) t) (front ∙ sym (take_all kept (take len held ++ (c ∷ [])) (omega arith)))
+pub keep-more : (line : List ℕ) (c number : ℕ) (t : Texts) → length line < kept
+    → fed (speaker (line ++ (c ∷ [])) number) t ≡ kept_more (fed (speaker line number) t) c
+keep-more line c number t h =
+    ap (λ (l : List ℕ). fed (speaker l number) t) (sym (take_all kept (line ++ (c ∷ [])) (omega (arith, length-append line (c ∷ [])))))
 
-pub keep-full : (held : List ℕ) (len c number : ℕ) (t : Texts) → length held ≡ kept → len ≤ kept → kept ≤ len
-    → fed (speaker (take len held) number) t ≡ kept_more (fed (speaker (take len held) number) t) c
-keep-full held len c number t long fits h =
-    let full = length-take-le len held (omega arith) in
-    ap (λ (l : List ℕ). fed (speaker l number) t) (sym (take_at (take len held) (c ∷ []) kept (omega arith)))
+pub keep-full : (line : List ℕ) (c number : ℕ) (t : Texts) → length line ≡ kept
+    → fed (speaker line number) t ≡ kept_more (fed (speaker line number) t) c
+keep-full line c number t full = ap (λ (l : List ℕ). fed (speaker l number) t) (sym (take_at line (c ∷ []) kept full))
 
 -- ---- the end of the line
 
@@ -53,13 +48,13 @@ behind out ys text at n size long fits short p =
 size-behind : (front text : List ℕ) (n : ℕ) → 0 + length text ≡ n → n ≤ most → length (front ++ text) ≤ length front + most
 size-behind front text n e short = let all = length-append front text in omega arith
 
-pub line-told : (told : ℕ → List ℕ → Texts) (held out err ys zs : List ℕ) (len number a b m n size : ℕ) → length out ≡ size → length err ≡ size
+pub line-told : (told : ℕ → List ℕ → Texts) (line out err ys zs : List ℕ) (number a b m n size : ℕ) → length out ≡ size → length err ≡ size
     → a + most ≤ size → b + most ≤ size
-    → Wrote (mid_of a (size - a) out) (mid_of b (size - b) err) (told number (take len held)) m n ys zs
-    → Gives told (fed (speaker (take len held) number) (texts (take a out) (take b err))) 10
+    → Wrote (mid_of a (size - a) out) (mid_of b (size - b) err) (told number line) m n ys zs
+    → Gives told (fed (speaker line number) (texts (take a out) (take b err))) 10
     (fed (speaker [] (next_number number)) (texts (take (a + m) (put_mid a (size - a) out ys)) (take (b + n) (put_mid b (size - b) err zs))))
-line-told told held out err ys zs len number a b m n size long₁ long₂ room₁ room₂ w =
-    let t = told number (take len held) in
+line-told told line out err ys zs number a b m n size long₁ long₂ room₁ room₂ w =
+    let t = told number line in
     let to_out = behind out ys t.out a m size long₁ room₁ w.out_short w.to_out in
     let to_err = behind err zs t.err b n size long₂ room₂ w.err_short w.to_err in
     record {
@@ -126,7 +121,8 @@ pub last-told : (told : ℕ → List ℕ → Texts) (line : List ℕ) (number : 
 last-told told [] number some g = absurd (some refl)
 last-told told (c ∷ cs) number some g = g.is ∙ sym (feed-one told (speaker (c ∷ cs) number) 10)
 
-pub no-last : (told : ℕ → List ℕ → Texts) (held : List ℕ) (len number : ℕ) → len ≡ 0
-    → fed (speaker (take len held) number) (texts [] []) ≡ finish told (speaker (take len held) number)
+pub no-last : (told : ℕ → List ℕ → Texts) (line : List ℕ) (number : ℕ) → length line ≡ 0
+    → fed (speaker line number) (texts [] []) ≡ finish told (speaker line number)
 unfolding feed
-no-last told held len number e = rw e refl
+no-last told [] number e = refl
+no-last told (c ∷ cs) number e = absurd (omega arith)

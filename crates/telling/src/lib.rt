@@ -5,8 +5,9 @@
 ghost use Rattle.std.specs.Prelude.{ℕ, ◌≤◌, ◌≡◌, List, length, take};
 ghost use Rattle.buffer.specs.Buffer.{newline};
 ghost use Rattle.asking.specs.Asked.{Texts};
-ghost use Rattle.telling.specs.Telling.{most, kept, Wrote, new_telling, kept_more, HasRoom, Gives};
+ghost use Rattle.telling.specs.Telling.{most, kept, Wrote, speaker, new_telling, kept_more, HasRoom, Gives};
 
+use arrayvec::ArrayVec;
 use asking::{LONGEST, ask_line};
 use conversation::Teller;
 use phrases::add;
@@ -92,12 +93,11 @@ impl Lines for Answers {
     }
 }
 
-// The line that is not finished, of which `len` characters are kept, and its number; and what the last piece gave, at the fronts of the two
-// buffers.
+// What is kept of the line that is not finished, and its number; and what the last piece gave, at the fronts of the two buffers, which are
+// arrays, since what a line gives is written into the rest of them.
 #[derive(Drop)]
 pub struct LineTeller<L> {
-    held: [u8; KEPT],
-    len: usize,
+    held: ArrayVec<u8, KEPT>,
     number: u64,
     out: [u8; TEXTS],
     err: [u8; TEXTS],
@@ -106,15 +106,15 @@ pub struct LineTeller<L> {
 }
 
 impl<L> Model for LineTeller<L> {
-    ghost use Rattle.std.specs.Prelude.{◌≤◌, length, take};
+    ghost use Rattle.std.specs.Prelude.{◌≤◌, ◌*◌, take};
     ghost use Rattle.asking.specs.Asked.{texts};
-    ghost use Rattle.telling.specs.Telling.{Fed, fed, speaker, kept};
+    ghost use Rattle.telling.specs.Telling.{most, piece_room, Fed, fed, speaker};
 
     ghost Value = { Fed };
 
-    ghost view = { λ l. fed (speaker (take l.len l.held) l.number) (texts (take l.told.out l.out) (take l.told.err l.err)) };
+    ghost view = { λ l. fed (speaker l.held.items l.number) (texts (take l.told.out l.out) (take l.told.err l.err)) };
 
-    ghost invariant = { λ l. (l.len ≤ kept) × (l.told.out ≤ length l.out) × (l.told.err ≤ length l.err) };
+    ghost invariant = { λ l. (l.told.out ≤ most * piece_room) × (l.told.err ≤ most * piece_room) };
 }
 
 impl<L: Lines> LineTeller<L> {
@@ -123,8 +123,7 @@ impl<L: Lines> LineTeller<L> {
         ensures { result ≡ new_telling }
     {
         LineTeller {
-            held: [0; KEPT],
-            len: 0,
+            held: ArrayVec::new(),
             number: 1,
             out: [0; TEXTS],
             err: [0; TEXTS],
@@ -133,13 +132,19 @@ impl<L: Lines> LineTeller<L> {
         }
     }
 
+    // What is kept of the line that is not finished, and its number.
+    pub fn line(&self) -> (&[u8], u64)
+        ensures { speaker result.0.now result.1 ≡ self.now.speaker }
+    {
+        (self.held.as_slice(), self.number)
+    }
+
     // One more character of the line.
     fn keep(&mut self, c: u8)
         ensures { self.new ≡ kept_more self.old c }
     {
-        if self.len < KEPT {
-            self.held[self.len] = c;
-            self.len += 1;
+        if self.held.len() < KEPT {
+            self.held.push(c);
         }
     }
 
@@ -151,12 +156,12 @@ impl<L: Lines> LineTeller<L> {
         let told = L::tell(
             &mut self.out[self.told.out..],
             &mut self.err[self.told.err..],
-            &self.held[..self.len],
+            self.held.as_slice(),
             self.number,
         );
         self.told.out += told.out;
         self.told.err += told.err;
-        self.len = 0;
+        self.held.clear();
         self.number = self.number.wrapping_add(1);
     }
 
@@ -205,7 +210,7 @@ impl<L: Lines> Teller for LineTeller<L> {
     // A last line that lacks its newline is told as if it had one.
     fn end(&mut self) {
         self.told = Told { out: 0, err: 0 };
-        if self.len != 0 {
+        if !self.held.is_empty() {
             self.end_line();
         }
     }

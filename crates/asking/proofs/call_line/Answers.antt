@@ -10,7 +10,7 @@ returns-in-Ok c =
     rw (c.truncate.ensures.items, c.from_array_in-line.ensures.items)
     (line-given c.args.call _ c.requires (search rules) wrote.result _ wrote.ensures _ c.in-Ok.is)
 
-pub returns-in-Err : goal.returns-in-Err
-returns-in-Err c =
+pub returns-in_default : goal.returns-in_default
+returns-in_default c =
     let wrote = c.write_call-written in
-    absurd (line-not-refused c.args.call _ c.requires (search rules) wrote.result _ wrote.ensures _ c.in-Err.is)
+    absurd (line-not-refused c.args.call _ c.requires (search rules) wrote.result _ wrote.ensures _ c.in_default.is)

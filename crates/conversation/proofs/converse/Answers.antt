@@ -24,9 +24,9 @@ returns-in_err-n-clause-conversed g c =
     read-failed c.loop-turn.invariant _ c.read_some.result w c.read_some.ensures.bytes c.read_some.ensures.patient
 
 pub returns-in_err-n-clause-beginning : goal.returns-in_err-n-clause-beginning
-returns-in_err-n-clause-beginning g c =
+returns-in_err-n-clause-beginning g c some =
     let t = g.met.T.Teller in
-    conversed-begins _ _ t.hears_on t.ends_so _ c.from_residual.result (returns-in_err-n-clause-conversed g c)
+    conversed-begins _ _ t.hears_on t.ends_so some _ c.from_residual.result (returns-in_err-n-clause-conversed g c)
 
 pub returns-then-n-eq0-clause-conversed : goal.returns-then-n-eq0-clause-conversed
 returns-then-n-eq0-clause-conversed g c =
@@ -34,19 +34,17 @@ returns-then-n-eq0-clause-conversed g c =
     let n = c.in_ok-n.n in
     let read : c.read_some.result ≡ Ok 0 = search rules in
     let bytes = rw read at c.read_some.ensures.bytes in
-    let some = c.requires.some in
-    let size : 0 < length c.read_some.new.piece = omega arith in
-    ended c.loop-turn.invariant c.deliver.result w bytes.0 (bytes.1 (omega arith) size) c.end.ensures c.deliver.ensures.ok c.deliver.ensures.err c.deliver.ensures.messages
+    ended c.loop-turn.invariant c.deliver.result w bytes.0 (λ some. bytes.1 (omega arith) (omega arith)) c.end.ensures c.deliver.ensures.ok c.deliver.ensures.err c.deliver.ensures.messages
 
 pub returns-then-n-eq0-clause-all : goal.returns-then-n-eq0-clause-all
-returns-then-n-eq0-clause-all g c =
+returns-then-n-eq0-clause-all g c some =
     let t = g.met.T.Teller in
-    conversed-all _ _ t.hears_on t.ends_so _ c.map_err-then-n-eq0.result (returns-then-n-eq0-clause-conversed g c)
+    conversed-all _ _ t.hears_on t.ends_so some _ c.map_err-then-n-eq0.result (returns-then-n-eq0-clause-conversed g c)
 
 pub returns-then-n-eq0-clause-beginning : goal.returns-then-n-eq0-clause-beginning
-returns-then-n-eq0-clause-beginning g c =
+returns-then-n-eq0-clause-beginning g c some =
     let t = g.met.T.Teller in
-    conversed-begins _ _ t.hears_on t.ends_so _ c.map_err-then-n-eq0.result (returns-then-n-eq0-clause-conversed g c)
+    conversed-begins _ _ t.hears_on t.ends_so some _ c.map_err-then-n-eq0.result (returns-then-n-eq0-clause-conversed g c)
 
 pub returns-in_err-map_err-clause-conversed : goal.returns-in_err-map_err-clause-conversed
 returns-in_err-map_err-clause-conversed g c =
@@ -59,9 +57,9 @@ returns-in_err-map_err-clause-conversed g c =
     bytes.0 c.hear.ensures c.deliver-in-loop-turn.ensures.err c.deliver-in-loop-turn.ensures.messages
 
 pub returns-in_err-map_err-clause-beginning : goal.returns-in_err-map_err-clause-beginning
-returns-in_err-map_err-clause-beginning g c =
+returns-in_err-map_err-clause-beginning g c some =
     let t = g.met.T.Teller in
-    conversed-begins _ _ t.hears_on t.ends_so _ c.from_residual-in_err-map_err.result (returns-in_err-map_err-clause-conversed g c)
+    conversed-begins _ _ t.hears_on t.ends_so some _ c.from_residual-in_err-map_err.result (returns-in_err-map_err-clause-conversed g c)
 
 pub returns-in_ok-map_err-clause-conversed : goal.returns-in_ok-map_err-clause-conversed
 returns-in_ok-map_err-clause-conversed g c =
@@ -75,6 +73,6 @@ returns-in_ok-map_err-clause-conversed g c =
     all-used more (omega arith)
 
 pub returns-in_ok-map_err-clause-beginning : goal.returns-in_ok-map_err-clause-beginning
-returns-in_ok-map_err-clause-beginning g c =
+returns-in_ok-map_err-clause-beginning g c some =
     let t = g.met.T.Teller in
-    conversed-begins _ _ t.hears_on t.ends_so _ _ (returns-in_ok-map_err-clause-conversed g c)
+    conversed-begins _ _ t.hears_on t.ends_so some _ _ (returns-in_ok-map_err-clause-conversed g c)
