@@ -1,4 +1,5 @@
-// Pairs of digits decoded into bytes. Reading a framed line calls this; it has tested the lengths.
+// Pairs of digits decoded into bytes, or summed. Reading a framed line calls this; it has tested the lengths. The loops go by places, as what is
+// known of a pair does: over chunks and bytes together each turn would speak of what both iterators have left.
 #![tactic(auto)]
 
 ghost use Rattle.std.specs.Prelude.{◌≡◌, ◌+◌, ◌*◌, ◌%◌, ◌&&◌, cond, length, Some, None};

@@ -51,7 +51,7 @@ fn write_byte(target: &mut [u8], at: usize, byte: u8)
     target[at + 1] = low;
 }
 
-// The digits of bytes, one behind the other.
+// The digits of bytes, one behind the other. By places, as what is stored in a buffer is told; the buffer may be longer than the digits.
 fn write_digits(target: &mut [u8], bytes: &[u8])
     requires { 2 * length bytes.now ≤ length target.old }
     ensures { let all = bytes.now in
