@@ -5,7 +5,7 @@ use mathlib.Core.Bool.{true, false}
 use mathlib.Core.List.{List}
 use Prim.Native.Nat.{ℕ}
 use lib.ListN.{length}
-use Rattle.std.specs.Prelude.{Option, Some, None, Result, Err}
+use Rattle.std.specs.Prelude.{Result, Ok, Err}
 use Rattle.def.specs.State.{slots}
 use Rattle.def.specs.declared.{Answer.Answer, EvcPm.EvcPm, EvcRefP.EvcRefP, Refusal.Refusal}
 use Rattle.def.specs.Results.{PmResult}
@@ -22,12 +22,12 @@ pub record Defined (d on : EvcPm → PmResult) : Type 0 where
   pub on-whole : (pm : EvcPm) → whole pm ≡ true → d pm ≡ on pm
   pub keeps : (pm : EvcPm) → length pm.pic ≡ slots → whole pm ≡ true → whole (d pm).pm ≡ true
 
-module _ {d on : EvcPm → PmResult} (f : Defined d on) {pm : EvcPm} {refp : List EvcRefP} {keys rows : List ℕ} {o : Option Rest}
+module _ {d on : EvcPm → PmResult} (f : Defined d on) {pm : EvcPm} {refp : List EvcRefP} {keys rows : List ℕ} {o : Result Rest Refusal}
     (p : Opens pm refp keys rows o) where
-  pub turned-away : o ≡ None → Gives (d pm) (Err Refusal.StateNotWhole) pm
-  turned-away e = rw (f.broken pm (came-broken p e)) (record { answers = refl; leaves = refl })
+  pub turned-away : {why : Refusal} → o ≡ Err why → Gives (d pm) (Err why) pm
+  turned-away {why} e = rw (f.broken pm (came-broken p e), p.turned_down why e) (record { answers = refl; leaves = refl })
 
-  module _ {rest : Rest} (e : o ≡ Some rest) {answer : Result Answer Refusal} {keys' rows' : List ℕ} {rest' : Rest} {lists : List EvcRefP}
+  module _ {rest : Rest} (e : o ≡ Ok rest) {answer : Result Answer Refusal} {keys' rows' : List ℕ} {rest' : Rest} {lists : List EvcRefP}
       (came : Comes answer keys' rows' rest' lists (on (stands keys rows rest))) where
     wanted : on (stands keys rows rest) ≡ d pm
     wanted = ap on (opened-is p e) ∙ sym (f.on-whole pm (came-whole p e))

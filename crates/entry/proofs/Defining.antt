@@ -9,18 +9,24 @@ use Rattle.keys.specs.declared.{Rest.Rest}
 use Rattle.keys.specs.Keys.{lists_in, stands, Comes}
 use Rattle.picman.specs.Get.{pm_refused, get, get_whole}
 use Rattle.picman.specs.Put.{remarked, put_marked, put, put_whole}
+use Rattle.picman.specs.Out.{out, out_whole}
 use Rattle.picman.proofs.GetKeeps.{get-keeps-whole}
 use Rattle.picman.proofs.PutLaws.{put-safe}
-use Rattle.std.specs.Prelude.{Option, Result}
+use Rattle.std.specs.Prelude.{Result}
 use Rattle.entries.specs.Entries.{ListsTaken}
 use Rattle.picman.specs.Init.{init, init_whole}
 use Rattle.picman.proofs.InitLaws.{init-keeps-whole}
+use Rattle.picman.proofs.OutLaws.{out-keeps-whole}
 use Rattle.entry.specs.Opening.{Opens}
 use Rattle.entry.proofs.Calling.{Defined}
 
 pub get-defined : Defined get get_whole
 unfolding get
 get-defined = record { broken = λ pm e. rw e refl; on-whole = λ pm e. rw e refl; keeps = get-keeps-whole }
+
+pub out-defined : Defined out out_whole
+unfolding out
+out-defined = record { broken = λ pm e. rw e refl; on-whole = λ pm e. rw e refl; keeps = out-keeps-whole }
 
 broken-put : (pm : EvcPm) (refp : List EvcRefP) (c : PutCall) → put_marked false pm (remarked c pm) refp c ≡ pm_refused Refusal.StateNotWhole pm
 unfolding put_marked
@@ -38,12 +44,12 @@ unfolding init
 init-defined size refs = record { broken = λ pm e. rw e refl; on-whole = λ pm e. rw e refl; keeps = λ pm l e. init-keeps-whole pm size refs e }
 
 -- the state as it was opened, with the lists that came
-pub opened : {pm : EvcPm} {refp : List EvcRefP} {before keys rows : List ℕ} {o : Option Rest} → ListsTaken refp before → Opens pm (lists_in before) keys rows o
+pub opened : {pm : EvcPm} {refp : List EvcRefP} {before keys rows : List ℕ} {o : Result Rest Refusal} → ListsTaken refp before → Opens pm (lists_in before) keys rows o
     → Opens pm refp keys rows o
-opened t o = record { tells = o.tells; stands_for = o.stands_for; lists_stay = o.lists_stay ∙ t.lists_are; sized = o.sized }
+opened t o = record { tells = o.tells; turned_down = o.turned_down; stands_for = o.stands_for; lists_stay = o.lists_stay ∙ t.lists_are; sized = o.sized }
 
 -- A put on the lists that came.
-pub put-on-lists : {pm : EvcPm} {refp : List EvcRefP} {keys rows : List ℕ} {o : Option Rest} → Opens pm refp keys rows o
+pub put-on-lists : {pm : EvcPm} {refp : List EvcRefP} {keys rows : List ℕ} {o : Result Rest Refusal} → Opens pm refp keys rows o
     → (c : PutCall) (rest : Rest) {answer : Result Answer Refusal} {keys' rows' : List ℕ} {rest' : Rest} {lists : List EvcRefP}
     → Comes answer keys' rows' rest' lists (put_whole (stands keys rows rest) (lists_in rows) c)
     → Comes answer keys' rows' rest' lists (put_whole (stands keys rows rest) refp c)

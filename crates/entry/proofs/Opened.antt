@@ -5,21 +5,21 @@ use mathlib.Core.Bool.{true, false}
 use mathlib.Core.List.{List}
 use Prim.Native.Nat.{ℕ}
 use lib.ListN.{length, length-map}
-use Rattle.std.specs.Prelude.{Option, Some, None, is_some}
+use Rattle.std.specs.Prelude.{Result, Ok, Err, is_ok}
 use Rattle.def.specs.State.{slots}
-use Rattle.def.specs.declared.{EvcPm.EvcPm, EvcRefP.EvcRefP}
+use Rattle.def.specs.declared.{EvcPm.EvcPm, EvcRefP.EvcRefP, Refusal.Refusal}
 use Rattle.keys.specs.declared.{Rest.Rest}
 use Rattle.keys.specs.Keys.{slot_at, stands}
 use Rattle.whole.specs.Whole.{whole}
 use Rattle.entry.specs.Opening.{Opens}
 
-module _ {pm : EvcPm} {refp : List EvcRefP} {keys rows : List ℕ} {o : Option Rest} (p : Opens pm refp keys rows o) where
-  pub came-broken : o ≡ None → whole pm ≡ false
-  came-broken e = sym p.tells ∙ ap is_some e
+module _ {pm : EvcPm} {refp : List EvcRefP} {keys rows : List ℕ} {o : Result Rest Refusal} (p : Opens pm refp keys rows o) where
+  pub came-broken : {why : Refusal} → o ≡ Err why → whole pm ≡ false
+  came-broken e = sym p.tells ∙ ap is_ok e
 
-  module _ {rest : Rest} (e : o ≡ Some rest) where
+  module _ {rest : Rest} (e : o ≡ Ok rest) where
     pub came-whole : whole pm ≡ true
-    came-whole = sym p.tells ∙ ap is_some e
+    came-whole = sym p.tells ∙ ap is_ok e
 
     pub opened-is : stands keys rows rest ≡ pm
     opened-is = p.stands_for rest e

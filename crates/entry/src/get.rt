@@ -14,9 +14,7 @@ pub fn evc_picman_get_empty_pic(pm: &mut EvcPm) -> Result<Shown, Refusal>
 {
     let mut keys = [0; SLOTS];
     let mut rows = [0; ROWS];
-    let Some(mut rest) = open_state(*pm, &mut keys, &mut rows) else {
-        return Err(Refusal::StateNotWhole);
-    };
+    let mut rest = open_state(*pm, &mut keys, &mut rows)?;
     let leased = picman::get::get(&mut keys, &mut rows, &mut rest);
     *pm = put_together(&keys, &rows, rest);
     leased

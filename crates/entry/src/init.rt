@@ -13,9 +13,7 @@ pub fn evc_picman_init(pm: &mut EvcPm, max_pb_size: u8, max_num_ref_pics: u8) ->
 {
     let mut keys = [0; SLOTS];
     let mut rows = [0; ROWS];
-    let Some(mut rest) = open_state(*pm, &mut keys, &mut rows) else {
-        return Err(Refusal::StateNotWhole);
-    };
+    let mut rest = open_state(*pm, &mut keys, &mut rows)?;
     let done = picman::init::init(&mut rest, max_pb_size, max_num_ref_pics);
     *pm = put_together(&keys, &rows, rest);
     done

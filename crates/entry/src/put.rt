@@ -20,9 +20,7 @@ pub fn evc_picman_put_pic(
     let mut keys = [0; SLOTS];
     let mut rows = [0; ROWS];
     take_lists(&refp, &mut rows);
-    let Some(mut rest) = open_state(*pm, &mut keys, &mut rows) else {
-        return Err(Refusal::StateNotWhole);
-    };
+    let mut rest = open_state(*pm, &mut keys, &mut rows)?;
     let placed = picman::put::put(&mut keys, &mut rows, &mut rest, call);
     *pm = put_together(&keys, &rows, rest);
     placed

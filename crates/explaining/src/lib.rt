@@ -1,5 +1,5 @@
-// Why a picture is or is not in the forward list of a slice, on a state that is lent, for crate `image_why`: the state is taken apart, tested and only read. Any
-// state may come: one that is not whole is turned down.
+// Why a picture is or is not in the forward list of a slice, on a state that is lent, for crate `image_why`: the state is taken apart, tested and only
+// read. Any state may come: one that is not whole is turned down.
 #![tactic(auto)]
 
 ghost use Rattle.std.specs.Prelude.{◌≡◌};
@@ -16,8 +16,6 @@ pub fn evc_picman_why(pm: &EvcPm, call: RefpCall, slot: u8) -> Result<Reason, Re
 {
     let mut keys = [0; SLOTS];
     let mut rows = [0; ROWS];
-    if open_state(*pm, &mut keys, &mut rows).is_none() {
-        return Err(Refusal::StateNotWhole);
-    }
+    open_state(*pm, &mut keys, &mut rows)?;
     why_on(&keys, call, slot)
 }

@@ -6,7 +6,8 @@ use Prim.Native.Nat.{ℕ, zero, suc, ◌+◌, ◌*◌, ◌-◌, ◌<◌, ◌≤�
 use mathlib.Core.Logic.{◌⊎◌, inl, inr}
 use native.Mathlib.Omega.{arith}
 use lib.ListN.{length, get_or, take, drop, length-drop, drop_of_length-le}
-use lib.Seq.{paste, get_or-take, get_or-drop, length-take-le, drop_at, drop-drop, drop-append-le, take-append-le, take-take, drop-paste, take_all, take-nil, take-append-add}
+use borrow.Rule.Slice.PartMut.{put_mid}
+use lib.Seq.{paste, get_or-take, get_or-drop, length-take-le, take_at, drop_at, drop-drop, drop-append-le, take-append-le, take-take, drop-paste, take_all, take-nil, take-append-add}
 use Rattle.seq.proofs.Tests.{lt-or-ge}
 use Rattle.keys.specs.Keys.{rows_length, row_count, row_at}
 
@@ -16,7 +17,7 @@ drop-take (suc n) zero l = let e : 0 ≡ 0 - suc n = omega arith in ap (λ (k : 
 drop-take {A} (suc n) (suc m) [] = sym (take-nil {A = A} (suc m - suc n))
 drop-take (suc n) (suc m) (x ∷ l) = let e : m - n ≡ suc m - suc n = omega arith in drop-take n m l ∙ ap (λ (k : ℕ). take k (drop n l)) e
 
-different : (c b : ℕ) → (c ≡ b → ⊥) → b ≤ c → b < c
+pub different : (c b : ℕ) → (c ≡ b → ⊥) → b ≤ c → b < c
 different c b e l = by (lt-or-ge b c)
   where
     by : (b < c) ⊎ (c ≤ b) → b < c
@@ -69,6 +70,45 @@ module _ (rows : List ℕ) (b : ℕ) (ns : List ℕ) (n : ℕ) (long : length ro
           ∙ ap (λ (x : List ℕ). take 21 (drop m x)) (drop-paste rows (21 * b) ns n (omega arith) there)
           ∙ ap (take 21) (drop-drop m (21 * b + n) rows)
           ∙ ap (λ (k : ℕ). take 21 (drop k rows)) (sym at)
+
+-- A row copied within rows that are cut in two: it is read in the one part and pasted in the other.
+module _ (rows front back new : List ℕ) (b at n : ℕ) (whole : rows ≡ front ++ back) (few : n ≤ 21) where
+  read : take n (drop (21 * b) rows) ≡ take n (row_at rows b)
+  unfolding row_at
+  read = sym (take-take n 21 (drop (21 * b) rows) few)
+
+  pub copied-behind : 21 * b + n ≤ length front → length front ≡ at → new ≡ take n (drop (21 * b) front)
+      → front ++ (new ++ drop n back) ≡ paste rows at (row_at rows b) n
+  copied-behind long cut e =
+      let cut_there : take at rows ≡ front = ap (take at) whole ∙ take_at front back at cut in
+      let rest : drop (at + n) rows ≡ drop n back = sym (drop-drop n at rows) ∙ ap (λ (l : List ℕ). drop n (drop at l)) whole ∙ ap (drop n) (drop_at front back at cut) in
+      let read_there : take n (drop (21 * b) rows) ≡ take n (drop (21 * b) front) =
+      ap (λ (l : List ℕ). take n (drop (21 * b) l)) whole
+      ∙ ap (take n) (drop-append-le (21 * b) front back (omega arith))
+      ∙ take-append-le n (drop (21 * b) front) back (omega (arith, length-drop (21 * b) front)) in
+      sym (append_assoc front new (drop n back))
+      ∙ ap (λ (l : List ℕ). (front ++ l) ++ drop n back) (e ∙ sym read_there ∙ read)
+      ∙ ap (λ (l : List ℕ). (l ++ take n (row_at rows b)) ++ drop n back) (sym cut_there)
+      ∙ ap (λ (l : List ℕ). (take at rows ++ take n (row_at rows b)) ++ l) (sym rest)
+
+  pub copied-before : length front ≡ 21 * b → at + n ≤ length front → new ≡ take n back
+      → put_mid at n front new ++ back ≡ paste rows at (row_at rows b) n
+  copied-before cut long e =
+      let before : take at rows ≡ take at front = ap (take at) whole ∙ take-append-le at front back (omega arith) in
+      let rest : drop (at + n) rows ≡ drop (at + n) front ++ back = ap (drop (at + n)) whole ∙ drop-append-le (at + n) front back long in
+      let read_there : take n (drop (21 * b) rows) ≡ take n back =
+      ap (λ (l : List ℕ). take n (drop (21 * b) l)) whole ∙ ap (take n) (drop_at front back (21 * b) cut) in
+      ap (λ (l : List ℕ). (take at front ++ (new ++ l)) ++ back) (drop-drop n at front)
+      ∙ ap (λ (l : List ℕ). l ++ back) (sym (append_assoc (take at front) new (drop (at + n) front)))
+      ∙ append_assoc (take at front ++ new) (drop (at + n) front) back
+      ∙ ap (λ (l : List ℕ). (take at front ++ l) ++ (drop (at + n) front ++ back)) (e ∙ sym read_there ∙ read)
+      ∙ ap (λ (l : List ℕ). (l ++ take n (row_at rows b)) ++ (drop (at + n) front ++ back)) (sym before)
+      ∙ ap (λ (l : List ℕ). (take at rows ++ take n (row_at rows b)) ++ l) (sym rest)
+
+-- The first n numbers of a list written into rows, as the part that they fill comes back.
+pub front-pasted : (rows numbers : List ℕ) (at n : ℕ) → put_mid at n rows (take n numbers) ≡ paste rows at numbers n
+front-pasted rows numbers at n =
+    ap (λ (l : List ℕ). take at rows ++ (take n numbers ++ l)) (drop-drop n at rows) ∙ sym (append_assoc (take at rows) (take n numbers) (drop (at + n) rows))
 
 -- a number of a row
 pub row_number : (rows : List ℕ) (b j : ℕ) → j < 21 → get_or (row_at rows b) j 0 ≡ get_or rows (21 * b + j) 0

@@ -5,14 +5,18 @@ ghost use Rattle.keys.specs.Keys.{row_count, rows_length, row_length, row_at};
 
 use crate::ROW;
 
-// The first `n` numbers of row `from` go to the front of another row. A loop, since `copy_within` takes up to half as long again in a list call, and a
-// copy from one part of the rows to the other calls `memmove`.
+// The first `n` numbers of row `from` go to the front of another row. From one part of the rows to the other, which the compiler makes wide moves of
+// where `n` is known; `copy_within` moves number by number and took up to half as long again in a list call.
 pub fn copy_row(rows: &mut [u32], from: usize, to: usize, n: usize)
     requires { (length rows.old ≡ rows_length) × (from < row_count) × (to < row_count) × (from ≡ to → ⊥) × (n ≤ row_length) }
     ensures { rows.new ≡ paste rows.old (row_length * to) (row_at rows.old from) n }
 {
-    for j in 0..n {
-        rows[ROW * to + j] = rows[ROW * from + j];
+    if from < to {
+        let (front, back) = rows.split_at_mut(ROW * to);
+        back[..n].copy_from_slice(&front[ROW * from..ROW * from + n]);
+    } else {
+        let (front, back) = rows.split_at_mut(ROW * from);
+        front[ROW * to..ROW * to + n].copy_from_slice(&back[..n]);
     }
 }
 

@@ -10,22 +10,22 @@ use Rattle.keys.specs.Keys.{lists_in, stands, ComesLists, Called}
 use Rattle.whole.specs.Whole.{whole}
 use Rattle.refp.specs.Lists.{lists, lists_whole}
 use Rattle.refp.proofs.ListLaws.{lists-stay-whole}
-use Rattle.std.specs.Prelude.{Option, Some, None, Err}
+use Rattle.std.specs.Prelude.{Result, Ok, Err}
 use Rattle.keys.specs.declared.{Rest.Rest}
 use Rattle.entry.specs.Opening.{Opens}
 use Rattle.listing.specs.Listing.{GivesLists}
 use Rattle.entry.proofs.Opened.{came-whole, came-broken, opened-is}
 
-module _ {pm : EvcPm} {refp : List EvcRefP} {keys rows : List ℕ} {o : Option Rest} (p : Opens pm refp keys rows o) (c : RefpCall) where
-  pub lists-turned-away : o ≡ None → GivesLists (lists pm refp c) (Err Refusal.StateNotWhole) pm refp
+module _ {pm : EvcPm} {refp : List EvcRefP} {keys rows : List ℕ} {o : Result Rest Refusal} (p : Opens pm refp keys rows o) (c : RefpCall) where
+  pub lists-turned-away : {why : Refusal} → o ≡ Err why → GivesLists (lists pm refp c) (Err why) pm refp
   unfolding lists
-  lists-turned-away e = rw (came-broken p e) (record { answers = refl; leaves = refl; lists_are = refl })
+  lists-turned-away {why} e = rw (came-broken p e, p.turned_down why e) (record { answers = refl; leaves = refl; lists_are = refl })
 
   whole-lists : whole pm ≡ true → lists pm refp c ≡ lists_whole pm refp c
   unfolding lists
   whole-lists w = rw w refl
 
-  module _ {rest : Rest} (e : o ≡ Some rest) {r : Called} {after : List ℕ}
+  module _ {rest : Rest} (e : o ≡ Ok rest) {r : Called} {after : List ℕ}
       (came : ComesLists r keys after (lists_whole (stands keys rows rest) (lists_in rows) c)) where
     on-whole : lists pm refp c ≡ lists_whole (stands keys rows rest) (lists_in rows) c
     on-whole =

@@ -6,18 +6,20 @@ use mathlib.Core.List.Memᴰ
 use mathlib.Core.List.{List, [], ◌∷◌, map}
 use Prim.Native.Nat.{ℕ, ◌<◌, ◌≤◌}
 use native.Mathlib.Omega.{arith}
+use lib.Dec.{leb}
 use lib.ListN.{length, get_or, set, length-set}
 use Rattle.seq.specs.Lists.{any_of, lowest}
 use Rattle.seq.proofs.Members.{map_at, mem-at}
-use Rattle.seq.proofs.Walks.{lowest-none, found-any}
+use Rattle.seq.proofs.Tests.{and_left}
+use Rattle.seq.proofs.Walks.{lowest-passes, lowest-none, found-any}
 use Rattle.seq.proofs.Maps.{map-lowest, map-any, map-set}
 use Rattle.def.specs.declared.{EvcPm.EvcPm, Answer.Answer}
-use Rattle.def.specs.State.{slots, no_slot, is_wanted}
+use Rattle.def.specs.State.{slots, highest_poc, no_slot, is_wanted}
 use Rattle.std.specs.Prelude.{Option, Some, None, Ok, Err, position}
 use Rattle.picman.specs.declared.{NoMoreOutput.NoMoreOutput}
 use Rattle.store.proofs.Finding.{found-here, none-here}
 use Rattle.keys.specs.declared.Rest.{Rest}
-use Rattle.keys.specs.Keys.{key_wanted, key_buffer, key_number, key_handed_over, rows_length, slot_at, stands, Sized}
+use Rattle.keys.specs.Keys.{key_present, key_wanted, key_buffer, key_number, key_out, key_handed_over, rows_length, slot_at, stands, Sized}
 use Rattle.keys.proofs.KeyLaws.{slot-handed-over}
 use Rattle.whole.specs.Whole.{whole}
 use Rattle.whole.proofs.Laws.{whole-rules}
@@ -54,6 +56,12 @@ module _ (keys : List ℕ) (rest : Rest) (long : length keys ≡ slots) where
   abbrev due : ℕ
   due = lowest (key_due rest.poc_next_output) keys
 
+  pub due-fits : NumbersFit keys → due < slots → key_number (get_or keys due 0) ≤ highest_poc
+  due-fits fit h =
+      let k : ℕ = get_or keys due 0 in
+      let p = lowest-passes 0 (key_due rest.poc_next_output) keys (omega arith) in
+      fit due h (and_left (key_present k) (key_out k) (and_left (key_wanted k) (leb (key_number k) rest.poc_next_output) p))
+
   abbrev at : Option ℕ
   at = position (key_due rest.poc_next_output) keys
 
@@ -61,6 +69,11 @@ module _ (keys : List ℕ) (rest : Rest) (long : length keys ≡ slots) where
   found-due i e =
       let f = found-here (key_due rest.poc_next_output) keys i (due-some at (any_of key_wanted keys) i e) in
       (f.0, omega (arith, f.1))
+
+  pub found-fits : NumbersFit keys → (i : ℕ) → Ok (Some i) ≡ due_place rest.poc_next_output keys → key_number (get_or keys i 0) ≤ highest_poc
+  found-fits fit i e =
+      let f = found-due i e in
+      subst (λ (j : ℕ). key_number (get_or keys j 0) ≤ highest_poc) f.0 (due-fits fit (omega (arith, f.0, f.1)))
 
   module _ (rows : List ℕ) (rows_long : length rows ≡ rows_length) where
     abbrev pm : EvcPm

@@ -9,8 +9,8 @@ ghost use Rattle.picman.specs.OnKeys.{with_refs, key_place, PlaceRoom, Placed, C
 use crate::Shown;
 use def::{PutCall, Refusal};
 use keys::key::{buffer_byte, buffer_of, is_present, key_of};
-use keys::row::copy_row;
-use keys::{NUMBER_ROW, Rest, SLOTS};
+use keys::row::read_row;
+use keys::{NUMBER_ROW, ROW, Rest, SLOTS};
 use store::places::highest_empty;
 
 // Where the picture goes: a reference to the place that the count of references names, if it is empty, any other picture to the highest empty slot.
@@ -41,7 +41,9 @@ fn picman_set_pic_to_pb(
 {
     let lease = rest.lease;
     let buf = buffer_of(lease);
-    copy_row(rows, NUMBER_ROW, buf, rest.num_refp_0 as usize);
+    let numbers = read_row(rows, NUMBER_ROW);
+    let listed = rest.num_refp_0 as usize;
+    rows[ROW * buf..ROW * buf + listed].copy_from_slice(&numbers[..listed]);
     keys[pos] = key_of(
         call.poc,
         call.temporal_id,

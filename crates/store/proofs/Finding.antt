@@ -97,6 +97,9 @@ module _ {A : Type 0} (q : A → Bool) (xs : List A) where
       let l : length xs ≤ position_or_len q xs = ltb-false _ _ t in
       omega (arith, same)
 
+  pub place-here : (i : ℕ) → i < length xs → lowest q xs ≡ i → position q xs ≡ Some i
+  place-here i h e = place-through (λ x. x) q q (λ x. refl) xs i h (ap (lowest q) (map-id xs) ∙ e)
+
   pub no-place : length xs ≤ lowest q xs → position q xs ≡ None
   no-place h =
       let l : length xs ≤ position_or_len q xs = omega (arith, same) in

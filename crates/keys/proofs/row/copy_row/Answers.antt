@@ -1,28 +1,18 @@
--- What is copied so far is pasted, and the row that is read is none of it.
-use mathlib.Core.Path.{◌≡◌, sym, ap, ◌∙◌}
-use mathlib.Core.List.{List}
-use Prim.Native.Nat.{ℕ, ◌+◌, ◌*◌}
-use native.Mathlib.Numerals.{add-one}
-use native.Mathlib.Omega.{arith}
-use lib.ListN.{get_or, set}
-use lib.Seq.{paste-suc}
-use Rattle.keys.specs.Keys.{row_at}
-use Rattle.keys.proofs.RowLaws.{row_other, row_number, row-length}
+use Rattle.std.proofs.Common.{◌≡◌, ◌∙◌, ◌++◌, ◌*◌, ◌+◌, ◌-◌, arith, take, drop, ap, ℕ}
+use borrow.Rule.Slice.PartMut.{put_mid}
+use Rattle.keys.proofs.RowLaws.{copied-behind, copied-before, different}
 use Rattle.keys.proofs.row.copy_row.Goals as goal
 
-pub loop-j-preserved : goal.loop-j-preserved
-loop-j-preserved c =
-    let l = c.loop-j in
+pub returns-then-from-to : goal.returns-then-from-to
+returns-then-from-to c =
     let a = c.args in
-    let before = a.rows.now in
-    let row = row_at before a.from in
-    let long = c.requires.0 in
-    let wide = row-length before a.from long c.requires.1 in
-    let same : get_or l.rows (21 * a.from + l.j) 0 ≡ get_or row l.j 0 =
-    sym (row_number l.rows a.from l.j (omega (arith, c.requires.4)))
-    ∙ ap (λ (x : List ℕ). get_or (row_at x a.from) l.j 0) l.invariant
-    ∙ ap (λ (x : List ℕ). get_or x l.j 0)
-    (row_other before a.to row l.j long c.requires.2 (omega (arith, c.requires.4)) (omega (arith, wide, c.requires.4)) a.from c.requires.3) in
-    ap (λ (v : ℕ). set l.rows (21 * a.to + l.j) v) same
-    ∙ ap (λ (r : List ℕ). set r (21 * a.to + l.j) (get_or row l.j 0)) l.invariant
-    ∙ rw add-one (paste-suc before (21 * a.to) row l.j 0 (omega (arith, long, c.requires.2, c.requires.4)) (omega (arith, wide, c.requires.4)))
+    let cut = c.split_at_mut-front in
+    let m : 21 * a.from + a.n - 21 * a.from ≡ a.n = omega arith in
+    copied-behind a.rows.now cut.result.0.now cut.result.1.now _ a.from (21 * a.to) a.n cut.ensures.value c.requires.4 (omega (arith, cut.ensures.front_len)) cut.ensures.front_len (c.copy_from_slice.ensures.after ∙ ap (λ (k : ℕ). take k (drop (21 * a.from) cut.result.0.now)) m)
+
+pub returns-else-from-to : goal.returns-else-from-to
+returns-else-from-to c =
+    let a = c.args in
+    let cut = c.split_at_mut-front-else-from-to in
+    let m : 21 * a.to + a.n - 21 * a.to ≡ a.n = omega arith in
+    ap (λ (k : ℕ). put_mid (21 * a.to) k cut.result.0.now c.copy_from_slice-else-from-to.new.self ++ cut.result.1.now) m ∙ copied-before a.rows.now cut.result.0.now cut.result.1.now _ a.from (21 * a.to) a.n cut.ensures.value c.requires.4 cut.ensures.front_len (omega (arith, different a.from a.to c.requires.3 c.if-from-to.false, cut.ensures.front_len, c.requires.4)) c.copy_from_slice-else-from-to.ensures.after
