@@ -22,8 +22,13 @@ pub fn evc_picman_out_pic(pm: &mut EvcPm) -> Result<Option<Shown>, NoOutput>
 {
     let mut keys = [0; SLOTS];
     let mut rows = [0; ROWS];
-    let mut rest = open_state(*pm, &mut keys, &mut rows).map_err(NoOutput::Refused)?;
+    let Ok(mut rest) = open_state(*pm, &mut keys, &mut rows) else {
+        return Err(NoOutput::Refused(Refusal::StateNotWhole));
+    };
     let handed = picman::out::out(&mut keys, &mut rest);
     *pm = put_together(&keys, &rows, rest);
-    handed.map_err(|_| NoOutput::NoMore)
+    match handed {
+        Ok(shown) => Ok(shown),
+        Err(_) => Err(NoOutput::NoMore),
+    }
 }
