@@ -23,7 +23,7 @@ from check import ROOT, expanded, files, text
 ELSEWHERE = set("""
     src/picman.rs src/enc/mod.rs api/frame.rs picman.rs util.rs def.rs api/mod.rs enc/mod.rs enc/tbl.rs ../shared/docs/src
     picman_move_pic picman_remove_pic_from_pb EVC_ERR EVC_ERR_UNKNOWN EVC_ERR_UNSUPPORTED EvceCtx PRINT_DPB Rc RefCell continue disable_hgop
-    read write errno strerror_r memcpy memmove memset stdin stdout REVC_SRC
+    read write errno strerror_r memcpy memset stdin stdout REVC_SRC
     f32 i32 u8 u64 foldl ensures requires search static Result TryFrom wrapping_add wrapping_neg arrayvec itoa ArrayVec ArrayString
     fly idr ref gap intra every mixed withdrawn SomeClaim some-claim some_claim NAME/must-fail/X.edit
 """.split()) | {"init: done", "put: done", "NAME: X"}

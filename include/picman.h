@@ -5,8 +5,8 @@
  *   3. The depth tables and the group planner.
  *   4. Answer lines read and call lines written.
  *
- * The library allocates nothing, keeps no pointer and has no state of its own. It calls memcpy, memmove and memset, which
- * the compiler puts in, and nothing else. No pointer may be null, and what a call writes may overlap nothing else that it is
+ * The library allocates nothing, keeps no pointer and has no state of its own. It calls memcpy and memset, which the
+ * compiler puts in, and nothing else. No pointer may be null, and what a call writes may overlap nothing else that it is
  * given. Two threads may not use one machine at once. */
 #ifndef PICMAN_H
 #define PICMAN_H
