@@ -34,7 +34,7 @@ GONE = set("""
     plan_interval_for_length read_from_the_start machine_why_rows_for_registers machine_why_of_the_first_slot
     seq/specs/Reverse.antt seq/specs/Table.antt entry/proofs/Opening.antt
     Passed on_side passes::on_side backward_list passes::backward_list choosing::backward_list poc_derivation answer_for
-    answers/specs/Answers.antt is_refusal_number def::is_refusal_number
+    answers/specs/Answers.antt is_refusal_number def::is_refusal_number next_answer
 """.split())
 
 WORD = r"[A-Za-z_][\w'-]*"
