@@ -7,8 +7,8 @@ ghost use Rattle.picman.specs.Results.{out_answer};
 ghost use Rattle.picman.specs.OnKeys.{due_place, key_shown, with_output_of, NumbersFit, Calls};
 
 use crate::{NoMoreOutput, Shown};
-use keys::Rest;
 use keys::key::{buffer_byte, is_wanted, number_of};
+use keys::{Rest, SLOTS};
 
 // The lowest slot that is due, if there is one; no more where no picture is wanted. One walk, since a second one would cost as much again.
 fn due_place(keys: &[u64], poc_next_output: u32) -> Result<Option<usize>, NoMoreOutput>
@@ -17,9 +17,10 @@ fn due_place(keys: &[u64], poc_next_output: u32) -> Result<Option<usize>, NoMore
 {
     let next = poc_next_output as u64;
     let mut wanted = false;
-    for (i, key) in keys.iter().enumerate() {
-        if is_wanted(*key) {
-            if *key / 65536 <= next {
+    // By places, of which there are always as many: over `keys.iter().enumerate()` an out took a tenth longer and more.
+    for i in 0..SLOTS {
+        if is_wanted(keys[i]) {
+            if keys[i] / 65536 <= next {
                 return Ok(Some(i));
             }
             wanted = true;

@@ -7,7 +7,7 @@ use Rattle.store.proofs.Finding.{place-here, no-place}
 use Rattle.keys.specs.Keys.{key_wanted, key_number}
 use Rattle.picman.specs.OnKeys.{key_due}
 use Rattle.picman.proofs.out.due_place.Goals as goal
-use Rattle.picman.proofs.out.due_place.Goals.{then-is_wanted+else-key-next, else-is_wanted}
+use Rattle.picman.proofs.out.due_place.Goals.{then-is_wanted+else-keys-i, else-is_wanted}
 
 -- A picture that is wanted is due exactly if its number is at most the next one.
 
@@ -24,11 +24,11 @@ any-hit : (w r : Bool) → (w || true || r) ≡ true
 any-hit true r = refl
 any-hit false r = refl
 
-pub returns-then-key-next : goal.returns-then-key-next
-returns-then-key-next c =
+pub returns-then-keys-i : goal.returns-then-keys-i
+returns-then-keys-i c =
     let a = c.args in
     let l = c.loop-i in
-    let hit = due a.poc_next_output (get_or a.keys.now l.i 0) (sym c.is_wanted.ensures ∙ c.if-is_wanted.true) c.if-key-next.true in
+    let hit = due a.poc_next_output (get_or a.keys.now l.i 0) (sym c.is_wanted.ensures ∙ c.if-is_wanted.true) c.if-keys-i.true in
     let at = sym l.invariant.0 ∙ lowest-hit 0 (key_due a.poc_next_output) a.keys.now l.i (omega (arith, c.requires)) hit in
     rw (place-here (key_due a.poc_next_output) a.keys.now l.i (omega (arith, c.requires)) at) refl
 
@@ -37,9 +37,9 @@ loop-i-preserved c =
     let a = c.args in
     let l = c.loop-i in
     elim c.if-is_wanted.branch [
-      | then-is_wanted+else-key-next w ↦ (
+      | then-is_wanted+else-keys-i w ↦ (
         lowest-miss 0 (key_due a.poc_next_output) a.keys.now l.i (omega (arith, c.requires))
-            (not_yet a.poc_next_output (get_or a.keys.now l.i 0) (omega (arith, w.if-key-next.false)))
+            (not_yet a.poc_next_output (get_or a.keys.now l.i 0) (omega (arith, w.if-keys-i.false)))
             ∙ l.invariant.0,
         rw w.wanted-is
             (sym (any-hit l.wanted (any_of key_wanted (drop (l.i + 1) a.keys.now)))
