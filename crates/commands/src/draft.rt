@@ -13,7 +13,8 @@ use line::Call;
 // The list limit where none is given.
 const USUAL_LIMIT: u8 = 21;
 
-// The parts of a put that were given.
+// The parts of a put that were given. `none` is a flag and the number no `Option`: the line of a put of no picture shows the number that was
+// given.
 #[derive(Clone, Copy, Default)]
 pub struct PutParts {
     pub poc: u32,

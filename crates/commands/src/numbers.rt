@@ -16,7 +16,7 @@ fn text_of(word: &[u8]) -> Option<&str>
     from_utf8(word).ok()
 }
 
-// A number of one byte.
+// A number of one byte. One line for each type: one for all would bring the type's highest number into the clause.
 pub fn byte_of(word: &[u8]) -> Option<u8>
     ensures { result ≡ number_to 255 word.now }
 {

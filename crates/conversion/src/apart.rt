@@ -1,4 +1,5 @@
-// A state by value taken apart into keys, rows and the rest. Any state may be taken apart: `take_slot` gives a slot that breaks a rule by itself a key that no whole state has.
+// A state by value taken apart into keys, rows and the rest. Any state may be taken apart: `take_slot` gives a slot that breaks a rule by itself
+// a key that no whole state has.
 ghost use Rattle.keys.specs.Keys.{lists_in, Sized};
 ghost use Rattle.conversion.specs.Apart.{TakenSlots, TakenApart};
 
@@ -10,6 +11,7 @@ fn take_slots(pic: &[Slot; SLOTS], keys: &mut [u64], rows: &mut [u32])
     requires { Sized keys.old rows.old }
     ensures { TakenSlots pic.now keys.new rows.old rows.new }
 {
+    // By place in the keys: no lemma of std ties what `keys.iter_mut().zip(pic)` writes to places.
     for (i, slot) in pic.iter().enumerate() {
         keys[i] = take_slot(*slot, rows);
     }

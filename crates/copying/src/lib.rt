@@ -1,4 +1,4 @@
-// An entry goes to place `cnt` of one list unless its number stands among the first `cnt` entries there.
+// An entry goes to place `cnt` of one list unless its number stands among the first `cnt` entries there, on lists that are lent.
 #![tactic(auto)]
 
 ghost use Rattle.refp.specs.Copy.{copy};
@@ -9,6 +9,7 @@ use def::{EvcRefP, REFP_PLACES, Refusal};
 use entries::{head_of, put_lists, take_lists};
 use keys::ROWS;
 
+// The entry comes by value: of one behind a reference the proof would not know that its buffer number fits a byte.
 pub fn check_copy_refp(
     refp: &mut [EvcRefP; REFP_PLACES],
     cnt: u64,

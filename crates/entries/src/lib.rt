@@ -18,6 +18,7 @@ pub fn head_of(entry: EvcRefP) -> u32
     2 * u32::from(entry.buf) + u32::from(entry.present)
 }
 
+// An entry stands in three places of the rows, so neither this nor `entry_of` is a conversion of one value.
 fn take_entry(entry: EvcRefP, j: usize, rows: &mut [u32])
     requires { (length rows.old ≡ rows_length) × (j < places) }
     ensures { EntryStored rows.old rows.new j entry }

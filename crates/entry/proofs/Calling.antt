@@ -1,6 +1,6 @@
 -- A call that answers with the state alone: what the core made of the opened state is what the definition makes of the state that came.
 -- Assumes nothing.
-use mathlib.Core.Path.{◌≡◌, refl, sym, ap, ◌∙◌, subst}
+use mathlib.Core.Path.{◌≡◌, refl, sym, ap, ◌∙◌}
 use mathlib.Core.Bool.{true, false}
 use mathlib.Core.List.{List}
 use Prim.Native.Nat.{ℕ}
@@ -26,10 +26,6 @@ module _ {d on : EvcPm → PmResult} (f : Defined d on) {pm : EvcPm} {refp : Lis
     (p : Opens pm refp keys rows o) where
   pub turned-away : {why : Refusal} → o ≡ Err why → Gives (d pm) (Err why) pm
   turned-away {why} e = rw (f.broken pm (came-broken p e), p.turned_down why e) (record { answers = refl; leaves = refl })
-
-  -- the refusal by its name
-  pub turned-away-so : {why : Refusal} → o ≡ Err why → Gives (d pm) (Err Refusal.StateNotWhole) pm
-  turned-away-so {why} e = subst (λ (r : Refusal). Gives (d pm) (Err r) pm) (p.turned_down why e) (turned-away e)
 
   module _ {rest : Rest} (e : o ≡ Ok rest) {answer : Result Answer Refusal} {keys' rows' : List ℕ} {rest' : Rest} {lists : List EvcRefP}
       (came : Comes answer keys' rows' rest' lists (on (stands keys rows rest))) where

@@ -1,4 +1,4 @@
--- What an out by value is answered with.
+-- What an out on a lent state is answered with.
 -- Assumes nothing.
 use Rattle.std.specs.Prelude.{Option, Some, None, Result, Ok, Err}
 use Rattle.def.specs.declared.{Answer.Answer, Refusal.Refusal}

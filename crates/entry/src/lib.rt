@@ -1,5 +1,5 @@
-// The calls of the picture manager on a state by value, with the names of the original: each takes the state apart, tests it, calls the running core
-// and puts the state together. Any state may come: one that is not whole stays as it is and is refused.
+// The calls of the picture manager on a state that is lent, with the names of the original: each takes the state apart, tests it, calls the
+// running core and puts the state together. Any state may come: one that is not whole stays as it is and is refused.
 #![tactic(auto)]
 
 pub mod get;

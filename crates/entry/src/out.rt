@@ -9,7 +9,8 @@ use def::{EvcPm, Refusal};
 use keys::{ROWS, SLOTS};
 use picman::Shown;
 
-// Why there is no picture to wait for: none is wanted for output, or the state is not whole.
+// Why there is no picture to wait for: none is wanted for output, or the state is not whole. An enum, since `None` as an error would not say
+// that no more comes.
 #[derive(Clone, Copy)]
 pub enum NoOutput {
     NoMore,
@@ -22,13 +23,8 @@ pub fn evc_picman_out_pic(pm: &mut EvcPm) -> Result<Option<Shown>, NoOutput>
 {
     let mut keys = [0; SLOTS];
     let mut rows = [0; ROWS];
-    let Ok(mut rest) = open_state(*pm, &mut keys, &mut rows) else {
-        return Err(NoOutput::Refused(Refusal::StateNotWhole));
-    };
+    let mut rest = open_state(*pm, &mut keys, &mut rows).map_err(NoOutput::Refused)?;
     let handed = picman::out::out(&mut keys, &mut rest);
     *pm = put_together(&keys, &rows, rest);
-    match handed {
-        Ok(shown) => Ok(shown),
-        Err(_) => Err(NoOutput::NoMore),
-    }
+    handed.map_err(|_| NoOutput::NoMore)
 }

@@ -82,14 +82,13 @@ module _ (rows numbers : List ℕ) (cnt lidx present buf poc : ℕ) where
       let number : refusal_number why ≡ 0 = sym (ap (λ (x : Result Answer Refusal). (reply_of 0 x).status) a) ∙ z in
       omega (arith, (refusals-in-use why).0)
 
-  pub placed : {head : ℕ} {got : List ℕ} {after : List ℕ} {r : ℕ} (given : Result (Unit {0}) Refusal) → fits rows present numbers ≡ true → buf < 256
+  pub placed : {head : ℕ} {got : List ℕ} {after : List ℕ} (given : Result (Unit {0}) Refusal) → fits rows present numbers ≡ true → buf < 256
       → head ≡ 2 * buf + present → got ≡ numbers
       → CopyCame (copy_answer given) rows after (rows_with_entry rows (lidx * list_places + cnt) head poc got) (copy (lists_in rows) cnt lidx (entry_with head poc got))
-      → r ≡ status given
-      → EntryPlaced r (fits rows present numbers) rows after (rows_placed rows cnt lidx entry) (copy (lists_in rows) cnt lidx entry)
-  placed {head} {got} {after} {r} given e b h n came told =
+      → EntryPlaced (status given) (fits rows present numbers) rows after (rows_placed rows cnt lidx entry) (copy (lists_in rows) cnt lidx entry)
+  placed {head} {got} {after} given e b h n came =
       let answer = copy_answer given in
-      let replied : r ≡ (reply_of 0 answer).status = told ∙ status-shown given in
+      let replied : status given ≡ (reply_of 0 answer).status = status-shown given in
       let fit = fitting rows present numbers e in
       let is : entry_with head poc got ≡ entry = rw (h, n) (entry-is present buf poc numbers fit.2 b) in
       let wanted : copy (lists_in rows) cnt lidx (entry_with head poc got) ≡ copy (lists_in rows) cnt lidx entry = ap (copy (lists_in rows) cnt lidx) is in

@@ -4,11 +4,11 @@
 ghost use Rattle.std.specs.Prelude.{◌≡◌, ◌+◌, ◌*◌};
 ghost use Rattle.keys.specs.Keys.{lists_in};
 ghost use Rattle.refp.specs.Copy.{copy};
+ghost use Rattle.statuses.specs.Statuses.{status};
 ghost use Rattle.one_entry.specs.OneEntry.{entry_given, fits, rows_placed, EntryPlaced};
 
+use def::Refusal;
 use keys::{ROW, ROWS};
-use line::BAD_LINE;
-use statuses::status_of;
 
 fn is_fit(rows: &[u32], present: u8, list_poc: &[u32]) -> bool
     ensures { result ≡ fits rows.now present list_poc.now }
@@ -23,8 +23,7 @@ fn head_from(present: u8, buf: u8) -> u32
     2 * u32::from(buf) + u32::from(present)
 }
 
-// Writes an entry at place `cnt` of list `lidx`: 0, 13 or 14, or 18 where a size or the flag does not fit: the status that the
-// other calls show in their answers.
+// Writes an entry at place `cnt` of list `lidx`. Where a size or the flag does not fit, it is a bad line.
 pub fn place_entry(
     rows: &mut [u32],
     cnt: u64,
@@ -33,19 +32,19 @@ pub fn place_entry(
     buf: u8,
     poc: u32,
     list_poc: &[u32],
-) -> u8
+) -> Result<(), Refusal>
     ensures { let before = rows.old in
         let numbers = list_poc.now in
         let entry = entry_given present buf poc numbers in
         let placed = rows_placed before cnt lidx entry in
         let wanted = copy (lists_in before) cnt lidx entry in
-        EntryPlaced result (fits before present numbers) before rows.new placed wanted }
+        EntryPlaced (status result) (fits before present numbers) before rows.new placed wanted }
 {
     if !is_fit(rows, present, list_poc) {
-        return BAD_LINE;
+        return Err(Refusal::BadLine);
     }
     let mut numbers = [0; ROW];
     numbers.copy_from_slice(list_poc);
     let head = head_from(present, buf);
-    status_of(adding::copy_refp(rows, cnt, lidx, head, poc, &numbers))
+    adding::copy_refp(rows, cnt, lidx, head, poc, &numbers)
 }

@@ -4,7 +4,6 @@ use Prim.Native.Nat.{ℕ, ◌+◌, ◌-◌, ◌≤◌}
 use native.Mathlib.Omega.{arith}
 use mathlib.Core.Path.{◌≡◌, sym, ap, ◌∙◌}
 use mathlib.Core.List.{List, ◌++◌, append_assoc}
-use mathlib.Core.Bool as Bool
 use lib.ListN.{length, length-append, take, drop}
 use lib.Seq.{sets, sets-eq, take_all, paste, drop-drop}
 use borrow.Rule.Slice.PartMut.{put_mid}

@@ -14,7 +14,8 @@ pub type Phrase = ArrayString<60>;
 // The words of a whole line, newline and all.
 pub type Sentence = ArrayString<128>;
 
-// Puts a text into the buffer from a place on, and gives the place behind it.
+// Puts a text into the buffer from a place on, and gives the place behind it. `telling` begins at the front alone; the promise is of any
+// place.
 pub fn add(out: &mut [u8], at: usize, text: &[u8]) -> usize
     requires { at + length text.now ≤ length out.old }
     ensures { Added out.old at text.now result out.new }

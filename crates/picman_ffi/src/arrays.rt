@@ -166,7 +166,7 @@ pub extern "C" fn picman_machine_copy(
         let wanted = copy (lists_in before) cnt lidx entry in
         EntryPlaced result (fits before present numbers) before rows.new placed wanted }
 {
-    place_entry(rows, cnt, lidx, present, buf, poc, list_poc)
+    status_of(place_entry(rows, cnt, lidx, present, buf, poc, list_poc))
 }
 
 // One call from the bytes of its line, check byte too, not in hex: writes the answer's bytes and gives its status.

@@ -39,7 +39,7 @@ pub extern "C" fn picman_call(image: &mut [u8], call: &[u8], answer: &mut [u8]) 
 pub extern "C" fn picman_copy_refp(image: &mut [u8], cnt: u64, lidx: u64, entry: &[u8]) -> u8
     ensures { Copies result image.old cnt lidx entry.now image.new }
 {
-    image_copy::copy_image(image, cnt, lidx, entry)
+    status_of(image_copy::copy_image(image, cnt, lidx, entry))
 }
 
 // The depth at a position of a group with a hierarchy of B slices.

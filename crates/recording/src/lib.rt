@@ -19,7 +19,7 @@ use machine::fields::derived_reply;
 use registers::poc_of;
 use sizing::is_sized;
 
-// The record's registers; what the others are read as stays.
+// The record's registers, 3 to 5 as `include/picman.h` has them; what the others are read as stays.
 fn write_record(registers: &mut [u32], poc: EvcPoc)
     requires { length registers.old ≡ registers_length }
     ensures { Recorded registers.old registers.new poc }

@@ -9,7 +9,8 @@ ghost use Rattle.scan.specs.Kinds.{line_length};
 use line::Call;
 use parsing::{LONGEST_LINE, read_line};
 
-// How many digits the line of a kind has, by the second digit of its call byte; none is of another kind.
+// How many digits the line of a kind has, by the second digit of its call byte; none is of another kind. The four lengths stand in
+// `parsing::read_line` too, which goes by the length where this goes by the kind.
 fn line_length(kind: u8) -> Option<usize>
     ensures { result ≡ line_length kind }
 {

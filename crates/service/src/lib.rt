@@ -23,7 +23,7 @@ const PIECE: usize = 16384;
 const ANSWERS: usize = PIECE * 17;
 
 // A run over the input: its machine as the lent arrays and the session, and the answers to the last piece, `len` bytes at
-// the front of `out`.
+// the front of `out`. An array and a length, since `run_piece` writes into a lent slice of that room.
 #[derive(Drop)]
 pub struct CallTeller {
     keys: [u64; SLOTS],

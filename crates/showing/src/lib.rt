@@ -4,6 +4,7 @@
 ghost use Rattle.std.specs.Prelude.{◌≡◌};
 ghost use Rattle.showing.specs.Shown.{picture_words, count_words, signed_words};
 
+use itoa::Buffer;
 use phrases::{Phrase, push_number};
 
 pub fn picture_words(buf: u8, value: u32) -> Phrase
@@ -34,10 +35,6 @@ pub fn signed_words(value: u32) -> Phrase
 {
     let mut words = Phrase::new();
     words.push_str("number ");
-    let signed = value.cast_signed();
-    if signed < 0 {
-        words.push_str("-");
-    }
-    push_number(&mut words, u64::from(signed.unsigned_abs()));
+    words.push_str(Buffer::new().format(value.cast_signed()));
     words
 }

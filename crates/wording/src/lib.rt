@@ -4,7 +4,7 @@
 ghost use Rattle.std.specs.Prelude.{◌≡◌, ◌≤◌, length};
 ghost use Rattle.wording.specs.Words.{status_word};
 
-// 10 and 12 are withdrawn, and any other number that is none of these no refusal has.
+// By the number and not by `Refusal`: a status is any byte, and two numbers that are withdrawn have a word too, 10 and 12.
 #[tactic(auto, unfolding(crate::specs::Words::status_word))]
 pub fn status_word(status: u8) -> &'static str
     ensures word { result.now ≡ status_word status }

@@ -22,6 +22,6 @@ returns c =
     let wanted : copy c.read_machine-machine.result.refp a.cnt a.lidx c.read-src.result ≡ copy_into a.image.now a.cnt a.lidx a.entry.now =
     rw (c.read-src.ensures, m) in
     record {
-      given = rw (c.status_of.ensures, status-shown c.check_copy_refp-done.result, came.answers, c.write_machine.ensures.bytes, came.lists_are, wanted, m);
+      given = rw (status-shown c.check_copy_refp-done.result, came.answers, c.write_machine.ensures.bytes, came.lists_are, wanted, m);
       holds = rw (came.lists_are, wanted, m) at c.write_machine.ensures.holds;
     }

@@ -17,4 +17,4 @@ copy_refp-requires c =
 pub returns : goal.returns
 returns c =
     placed c.args.rows.now c.args.list_poc.now c.args.cnt c.args.lidx c.args.present c.args.buf c.args.poc c.copy_refp.result (sym c.is_fit.ensures ∙ c.if-not-is_fit.false) (search rules)
-    c.head_from-head.ensures c.copy_from_slice.ensures.after c.copy_refp.ensures c.status_of.ensures
+    c.head_from-head.ensures c.copy_from_slice.ensures.after c.copy_refp.ensures
