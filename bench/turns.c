@@ -1,5 +1,5 @@
 // Calls of the static library, mix by mix: prints each mix with the nanoseconds of CPU time of one call, the best of some short runs.
-// `bench/turns` builds it with two archives and runs the two by turns.
+// `bench/turns` builds it with two archives and runs the two by turns. Arguments: calls a run, runs, the one mix to run.
 #include "picman.h"
 #include <stdio.h>
 #include <stdlib.h>
@@ -33,19 +33,21 @@ static double best[MIXES];
 static const char *names[MIXES];
 
 int main(int argc, char **argv) {
-    int calls = argc > 1 ? atoi(argv[1]) : 2000, runs = argc > 2 ? atoi(argv[2]) : 6, mixes = 0;
+    int calls = argc > 1 ? atoi(argv[1]) : 2000, runs = argc > 2 ? atoi(argv[2]) : 6, only = argc > 3 ? atoi(argv[3]) : -1, mixes = 0;
     static const uint32_t numbers[PICMAN_PLACES];
     for (int run = 0; run < runs; run++) {
         mixes = 0;
 #define MIX(name, setup, call)                                                                                             \
     do {                                                                                                                   \
+        names[mixes] = name;                                                                                               \
+        if (only >= 0 && only != mixes++) break;                                                                           \
+        if (only < 0) mixes++;                                                                                             \
         setup;                                                                                                             \
         for (int i = 0; i < 200; i++) { call; }                                                                            \
         double start = now();                                                                                              \
         for (int i = 0; i < calls; i++) { call; }                                                                          \
         double each = (now() - start) / calls;                                                                             \
-        if (run == 0 || each < best[mixes]) best[mixes] = each;                                                            \
-        names[mixes++] = name;                                                                                             \
+        if (run == 0 || each < best[mixes - 1]) best[mixes - 1] = each;                                                    \
     } while (0)
         MIX("get and put without reference, empty store", fill(&machine, 0),
             picman_get(&machine); answer = picman_put(&machine, 0, (uint32_t)i, 1, 0));
@@ -78,5 +80,6 @@ int main(int argc, char **argv) {
         MIX("out, 20 wanted (20 calls and a copy of the machine)", machine = filled, machine = filled;
             for (int j = 0; j < 20; j++) answer = picman_out(&machine));
     }
-    for (int mix = 0; mix < mixes; mix++) printf("%s\t%.2f\n", names[mix], best[mix]);
+    for (int mix = 0; mix < mixes; mix++)
+        if (only < 0 || only == mix) printf("%s\t%.2f\n", names[mix], best[mix]);
 }
