@@ -3,7 +3,6 @@
 #![tactic(auto)]
 
 ghost use Rattle.std.specs.Prelude.{◌≡◌, length};
-ghost use Rattle.words.specs.Words.{poc_width, poc_bytes};
 ghost use Rattle.planning.specs.Planned.{plan_left, slice_byte, plan_width, plan_bytes, plan_called};
 ghost use Rattle.statuses.specs.Statuses.{status};
 
