@@ -5,14 +5,14 @@ ghost use Rattle.std.specs.Prelude.{◌≡◌};
 ghost use Rattle.hex_digits.specs.Frame.{from_line};
 ghost use Rattle.line.specs.Answers.{answer_kind};
 
-use framing::read_framed;
+use framing::read_framed_array;
 use line::Reply;
 
 /// The characters of an answer line, without its newline; nothing where they are none.
 pub fn read_answer(digits: &[u8]) -> Option<Reply>
     ensures { result ≡ from_line answer_kind digits.now }
 {
-    let [call, status, buf, a, b, c, d, _] = read_framed::<8>(digits)?;
+    let [call, status, buf, a, b, c, d, _] = read_framed_array::<8>(digits)?;
     Some(Reply {
         call,
         status,

@@ -1,8 +1,9 @@
-// Pairs of digits decoded into bytes, or summed. Reading a framed line calls this; it has tested the lengths. The loops go by places, as what is
-// known of a pair does: over chunks and bytes together each turn would speak of what both iterators have left.
+// Pairs of digits decoded into lent bytes or into an array, or summed. Reading a framed line calls this; it has tested the lengths. The
+// loops go by places, as what is known of a pair does: over chunks and bytes together each turn would speak of what both iterators have
+// left.
 #![tactic(auto)]
 
-ghost use Rattle.std.specs.Prelude.{◌≡◌, ◌+◌, ◌*◌, ◌%◌, ◌&&◌, cond, length, Some, None};
+ghost use Rattle.std.specs.Prelude.{◌≡◌, true, ◌+◌, ◌*◌, ◌/◌, ◌%◌, ◌≤◌, ◌&&◌, cond, length, take, Some, None};
 ghost use Rattle.seq.specs.Lists.{all_of};
 ghost use Rattle.hex_digits.specs.Hex.{is_digit, digit_value, bytes_of, sum8};
 
@@ -22,8 +23,25 @@ fn pair_value(high: u8, low: u8) -> Option<u8>
     }
 }
 
+/// Writes the bytes that pairs of digits stand for, up to the first pair that is not two digits; says whether all are.
+pub fn decode(digits: &[u8], bytes: &mut [u8]) -> bool
+    requires { (length digits.now ≤ 2 * length bytes.old) × (length digits.now % 2 ≡ 0) }
+    ensures hex { result ≡ all_of is_digit digits.now }
+    ensures bytes { let characters = digits.now in
+        (result ≡ true → take (length characters / 2) bytes.new ≡ bytes_of characters) }
+{
+    let n = digits.len() / 2;
+    for i in 0..n {
+        match pair_value(digits[2 * i], digits[2 * i + 1]) {
+            Some(byte) => bytes[i] = byte,
+            None => return false,
+        }
+    }
+    true
+}
+
 /// The bytes that pairs of digits stand for, where all are digits.
-pub fn decode<const N: usize>(digits: &[u8]) -> Option<[u8; N]>
+pub fn decode_array<const N: usize>(digits: &[u8]) -> Option<[u8; N]>
     requires { length digits.now ≡ 2 * N }
     ensures { let characters = digits.now in
         result ≡ cond (all_of is_digit characters) (Some (bytes_of characters)) None }

@@ -1,26 +1,43 @@
 // A framed line read and written, whatever its bytes mean: hex pairs, a sum of zero, the check byte last.
-// The `requires` of what writes is met by who has tested that there is room.
+// Each `requires` is met by who has tested that there is room.
 #![tactic(auto)]
 
-ghost use Rattle.std.specs.Prelude.{◌≡◌, ◌+◌, ◌*◌, ◌≤◌, [], ◌∷◌, length};
+ghost use Rattle.std.specs.Prelude.{◌≡◌, true, ◌+◌, ◌*◌, ◌/◌, ◌≤◌, [], ◌∷◌, length, take};
 ghost use Rattle.std.proofs.Math.Seq.{paste};
 ghost use Rattle.seq.specs.Lists.{Stored};
-ghost use Rattle.hex_digits.specs.Hex.{digits_of};
+ghost use Rattle.hex_digits.specs.Hex.{bytes_of, digits_of};
 ghost use Rattle.hex_digits.specs.Frame.{is_framed};
 ghost use Rattle.framing.specs.Framing.{bytes_framed, line_size, whole_of};
 
-use decoding::{decode, decoded_sum};
+use decoding::{decode, decode_array, decoded_sum};
 use hex_digits::digit_pair;
-use summing::{check_byte, is_checked};
+use summing::{closing_byte, is_checked};
+
+/// Whether characters are a framed line; then its bytes, check byte last, stand at the front of `bytes`.
+pub fn read_framed(digits: &[u8], bytes: &mut [u8]) -> bool
+    requires { length digits.now ≤ 2 * length bytes.old }
+    ensures framed { result ≡ is_framed digits.now }
+    ensures bytes { let characters = digits.now in
+        (result ≡ true → take (length characters / 2) bytes.new ≡ bytes_of characters) }
+{
+    if digits.len() % 2 != 0 {
+        return false;
+    }
+    if !decode(digits, bytes) {
+        return false;
+    }
+    let n = digits.len() / 2;
+    is_checked(&bytes[..n])
+}
 
 /// The `N` bytes of a framed line, check byte last; nothing where the characters are no framed line of that length.
-pub fn read_framed<const N: usize>(digits: &[u8]) -> Option<[u8; N]>
+pub fn read_framed_array<const N: usize>(digits: &[u8]) -> Option<[u8; N]>
     ensures { result ≡ bytes_framed N digits.now }
 {
     if digits.len() % 2 != 0 || digits.len() / 2 != N {
         return None;
     }
-    let bytes = decode::<N>(digits)?;
+    let bytes = decode_array::<N>(digits)?;
     if is_checked(&bytes) {
         Some(bytes)
     } else {
@@ -70,7 +87,9 @@ pub fn write_framed(target: &mut [u8], body: &[u8]) -> usize
 {
     let n = 2 * body.len();
     write_digits(target, body);
-    write_byte(target, n, check_byte(body));
+    let [high, low] = digit_pair(closing_byte(body));
+    target[n] = high;
+    target[n + 1] = low;
     target[n + 2] = b'\n';
     n + 3
 }

@@ -5,7 +5,7 @@
 ghost use Rattle.std.specs.Prelude.{◌≡◌, ◌*◌, length};
 ghost use Rattle.line.specs.Calls.{call_in, call_from, read_line};
 
-use framing::read_framed;
+use framing::read_framed_array;
 use line::{Call, GET_EMPTY_PIC, HIGHEST_FLAGS, INIT, OUT_PIC, POC_DERIVATION, PUT_PIC, REFP_INIT};
 use summing::is_checked;
 
@@ -76,7 +76,7 @@ fn read_sized<const N: usize>(digits: &[u8]) -> Option<Call>
     requires { length digits.now ≡ 2 * N }
     ensures { result ≡ read_line digits.now }
 {
-    let bytes = read_framed::<N>(digits)?;
+    let bytes = read_framed_array::<N>(digits)?;
     read_call(&bytes)
 }
 

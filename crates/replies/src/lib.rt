@@ -9,7 +9,7 @@ ghost use Rattle.line.specs.Answers.{reply_bytes, answer_line};
 
 use framing::write_framed;
 use line::Reply;
-use summing::check_byte;
+use summing::closing_byte;
 
 // An answer line has sixteen digits and its newline.
 const ANSWER_SIZE: usize = 17;
@@ -28,7 +28,7 @@ pub fn answer_bytes(reply: Reply) -> [u8; 8]
 {
     let body = reply_bytes(reply);
     let [call, status, buf, a, b, c, d] = body;
-    [call, status, buf, a, b, c, d, check_byte(&body)]
+    [call, status, buf, a, b, c, d, closing_byte(&body)]
 }
 
 /// The line of an answer: its bytes in hex, and the newline.

@@ -9,6 +9,9 @@ ghost use Rattle.scan.specs.Kinds.{line_length};
 use line::Call;
 use parsing::{LONGEST_LINE, read_line};
 
+// What ends a line.
+const NEWLINE: u8 = b'\n';
+
 // How many digits the line of a kind has, by the second digit of its call byte; none is of another kind. The four lengths stand in
 // `parsing::read_line` too, which goes by the length where this goes by the kind.
 fn line_length(kind: u8) -> Option<usize>
@@ -33,7 +36,7 @@ pub fn read_line_at(buffer: &[u8], at: usize) -> Option<(Call, usize)>
         return None;
     };
     let end = line_length(kind)?;
-    if rest.len() <= end || rest[end] != b'\n' {
+    if rest.len() <= end || rest[end] != NEWLINE {
         return None;
     }
     let call = read_line(&rest[..end])?;

@@ -13,7 +13,7 @@ use Rattle.answers.proofs.read_answer.Goals as goal
 pub returns-in_err-call : goal.returns-in_err-call
 returns-in_err-call c =
     let cs = c.args.digits.now in
-    let fails = test-failed (eqb (length cs) 16 && is_framed cs) _ (sym c.read_framed.ensures ∙ c.in_err-call.was) in
+    let fails = test-failed (eqb (length cs) 16 && is_framed cs) _ (sym c.read_framed_array.ensures ∙ c.in_err-call.was) in
     let none : from_line answer_kind cs ≡ None = by cs (eqb (length cs) 16) refl fails in
     rw none (search rules)
   where
@@ -25,7 +25,7 @@ pub returns : goal.returns
 returns c =
     let cs = c.args.digits.now in
     let bs = c.in_ok-call.field-0 in
-    let yes = test-passed (eqb (length cs) 16 && is_framed cs) _ bs (sym c.read_framed.ensures ∙ c.in_ok-call.was) in
+    let yes = test-passed (eqb (length cs) 16 && is_framed cs) _ bs (sym c.read_framed_array.ensures ∙ c.in_ok-call.was) in
     let sized = eqb-true (length cs) 16 (and_left (eqb (length cs) 16) (is_framed cs) yes.0) in
     let value : c.from_be_bytes.result ≡ word_at bs 3 4 5 6 = search rules in
     rw value (sym (bytes-read cs bs sized (and_right (eqb (length cs) 16) (is_framed cs) yes.0) yes.1))

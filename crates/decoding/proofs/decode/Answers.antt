@@ -1,8 +1,7 @@
 -- `decoding::decode` meets its contract: what one more pair of digits adds. Assumes nothing.
-use Rattle.std.proofs.Common.{◌≡◌, ◌+◌, ◌*◌, ◌<◌, [], length, drop, false, rules, sym, ◌∙◌, arith}
+use Rattle.std.proofs.Common.{◌≡◌, ◌+◌, ◌*◌, ◌/◌, ◌<◌, [], length, drop, false, rules, sym, ◌∙◌, arith}
 use mathlib.Core.List.{append-nil}
 use lib.ListN.{length-set, drop_of_length-le}
-use lib.Seq.{take_all}
 use Rattle.seq.specs.Lists.{all_of}
 use Rattle.hex_digits.specs.Hex.{is_digit, bytes_of}
 use Rattle.hex_digits.proofs.HexLaws.{both}
@@ -10,20 +9,19 @@ use Rattle.hex_digits.proofs.Pairs.{not-hex, digits-pass, pair-bytes}
 use Rattle.hex_digits.proofs.Tested.{test-failed, test-passed}
 use Rattle.decoding.proofs.decode.Goals as goal
 
-pub returns-in_err-bytes : goal.returns-in_err-bytes
-returns-in_err-bytes g c =
+pub returns-in-None-clause-hex : goal.returns-in-None-clause-hex
+returns-in-None-clause-hex c =
     let l = c.loop-i in
     let digits = c.args.digits.now in
-    let no = test-failed _ _ (sym c.pair_value.ensures ∙ c.in_err-bytes.was) in
-    let some_other : all_of is_digit digits ≡ false = sym l.invariant.hex ∙ not-hex digits l.i (omega arith) no in
-    rw some_other (search rules)
+    let no = test-failed _ _ (sym c.pair_value.ensures ∙ c.in-None.is) in
+    sym (not-hex digits l.i (omega arith) no) ∙ l.invariant.hex
 
 pub loop-i-preserved : goal.loop-i-preserved
-loop-i-preserved g c =
+loop-i-preserved c =
     let l = c.loop-i in
     let digits = c.args.digits.now in
     let h : 2 * l.i + 1 < length digits = omega arith in
-    let yes = test-passed _ _ c.in_ok-bytes.field-0 (sym c.pair_value.ensures ∙ c.in_ok-bytes.was) in
+    let yes = test-passed _ _ c.in-Some.byte (sym c.pair_value.ensures ∙ c.in-Some.is) in
     let two = both _ _ yes.0 in
     record {
       within = omega arith;
@@ -34,10 +32,12 @@ loop-i-preserved g c =
 
 pub returns : goal.returns
 unfolding all_of bytes_of
-returns g c =
+returns c =
     let l = c.loop-i in
     let digits = c.args.digits.now in
+    let i : l.i ≡ length digits / 2 = omega arith in
     let none : drop (2 * l.i) digits ≡ [] = drop_of_length-le digits {i = 2 * l.i} (omega arith) in
-    let hex = rw none at l.invariant.hex in
-    let bytes = rw (none, append-nil, take_all l.i l.bytes (omega arith)) at l.invariant.bytes in
-    rw (← hex, ← bytes)
+    record {
+      hex = rw none at l.invariant.hex;
+      bytes = λ f. rw (← i) (rw (none, append-nil) at l.invariant.bytes);
+    }

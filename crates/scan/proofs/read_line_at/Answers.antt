@@ -7,7 +7,7 @@ use Rattle.line.specs.Lines.{call_at}
 use Rattle.buffer.proofs.Newlines.{rest-is}
 use Rattle.scan.proofs.Standing.{there, none-there, not-both, same-some}
 use Rattle.scan.proofs.read_line_at.Goals as goal
-use Rattle.scan.proofs.read_line_at.Goals.{then-rest-end-via-then-rest-end, then-rest-end-via-else-rest-end+then-rest-end-ne10}
+use Rattle.scan.proofs.read_line_at.Goals.{then-rest-end-via-then-rest-end, then-rest-end-via-else-rest-end+then-rest-end-ne-NEWLINE}
 
 abbrev rest : List ℕ → ℕ → List ℕ
 rest buffer at = take (length buffer - at) (drop at buffer)
@@ -40,7 +40,7 @@ returns-then-rest-end c =
     let end = same-some (sym c.line_length.ensures ∙ c.in_ok-end.was) g.sized in
     let i = g.inside in
     let n = g.ends in
-    elim c.then-rest-end.branch [ then-rest-end-via-then-rest-end w ↦ omega arith | then-rest-end-via-else-rest-end+then-rest-end-ne10 w ↦ w.if-rest-end-ne10.true (rw (← end) at n) ]))
+    elim c.then-rest-end.branch [ then-rest-end-via-then-rest-end w ↦ omega arith | then-rest-end-via-else-rest-end+then-rest-end-ne-NEWLINE w ↦ w.if-rest-end-ne-NEWLINE.true (rw (← end) at n) ]))
 
 pub returns-in_err-call : goal.returns-in_err-call
 returns-in_err-call c =
