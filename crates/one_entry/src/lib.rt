@@ -43,8 +43,7 @@ pub fn place_entry(
     if !is_fit(rows, present, list_poc) {
         return Err(Refusal::BadLine);
     }
-    let mut numbers = [0; ROW];
-    numbers.copy_from_slice(list_poc);
+    let numbers = list_poc.as_array::<ROW>().unwrap();
     let head = head_from(present, buf);
-    adding::copy_refp(rows, cnt, lidx, head, poc, &numbers)
+    adding::copy_refp(rows, cnt, lidx, head, poc, numbers)
 }

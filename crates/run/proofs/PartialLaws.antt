@@ -7,7 +7,7 @@ use mathlib.Core.Bool.{Bool, true, false}
 use mathlib.Core.List.{List, ◌++◌}
 use lib.Dec.{leb}
 use lib.ListN.{length, take}
-use lib.Seq.{take_all, length-take-le, take-append-add}
+use lib.Seq.{take_all, length-take-le, take-append-add, paste, take-paste}
 use borrow.Author.Tests.{leb-true, leb-false}
 use Rattle.line.specs.Calls.{read_line}
 use Rattle.line.proofs.CallLaws.{too_long}
@@ -39,11 +39,14 @@ take-least k l = by (leb k (length l)) refl
         take_all (min k (length l)) l m ∙ sym (take_all k l (omega arith))
 
 -- As many of the characters are added as there is room for.
-pub kept-append : (line part : List ℕ) (room : ℕ) → length line ≤ kept_length → room ≡ min (kept_length - length line) (length part)
-    → line ++ take room part ≡ take kept_length (line ++ part)
-kept-append line part room fits e =
-    let all : length line + (kept_length - length line) ≡ kept_length = omega arith in
-    ap (λ (n : ℕ). line ++ take n part) e
-    ∙ ap (λ (l : List ℕ). line ++ l) (take-least (kept_length - length line) part)
-    ∙ sym (take-append-add line part (kept_length - length line))
-    ∙ ap (λ (k : ℕ). take k (line ++ part)) all
+pub kept-append : (bytes part : List ℕ) (len more : ℕ) → len ≤ kept_length → length bytes ≡ kept_length → more ≡ min (kept_length - len) (length part)
+    → take (len + more) (paste bytes len part more) ≡ take kept_length (take len bytes ++ part)
+kept-append bytes part len more fits size e =
+    let front = take len bytes in
+    let n : length front ≡ len = length-take-le len bytes (omega arith) in
+    let room : length front + (kept_length - len) ≡ kept_length = omega arith in
+    take-paste bytes len part more (omega arith) (omega arith)
+    ∙ ap (λ (k : ℕ). front ++ take k part) e
+    ∙ ap (λ (l : List ℕ). front ++ l) (take-least (kept_length - len) part)
+    ∙ sym (take-append-add front part (kept_length - len))
+    ∙ ap (λ (k : ℕ). take k (front ++ part)) room

@@ -20,7 +20,7 @@ use replies::write_reply;
 use scan::read_line_at;
 
 // What goes from piece to piece beside the lent arrays: the machine's scalars, and the line that is not finished yet.
-#[derive(Drop)]
+#[derive(Clone, Copy)]
 pub struct Session {
     pub scalars: Scalars,
     pub partial: Partial,
