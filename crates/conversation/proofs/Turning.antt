@@ -77,6 +77,7 @@ module _ {T : Type 0} {Hears : T → List ℕ → T → Type 0} {Ends : T → T 
     at_end = λ some f. cc;
     patient = p;
     used_up = λ f. cc;
+    some_turn = λ why f. cc;
   })
 
   pub write-failed : {left'' wrote'' said'' : Option (List ℕ)} {u : T} (answer : Result (Unit {0}) Error) {r' : Result (Unit {0}) Stop} (piece : List ℕ)
@@ -96,6 +97,7 @@ module _ {T : Type 0} {Hears : T → List ℕ → T → Type 0} {Ends : T → T 
     at_end = λ some g. cc;
     patient = tt;
     used_up = λ g. cc;
+    some_turn = λ why g. omega arith;
   })
 
   pub ended : {left'' wrote'' said'' : Option (List ℕ)} {u : T} (answer : Result (Unit {0}) Error) {r' : Result (Unit {0}) Stop}
@@ -114,6 +116,7 @@ module _ {T : Type 0} {Hears : T → List ℕ → T → Type 0} {Ends : T → T 
     at_end = λ some g. e some;
     patient = tt;
     used_up = λ g. cc;
+    some_turn = λ f g. cc;
   })
   ended {left''} {wrote''} {u = u} (Err why) w c e h a b f = rw w (record {
     made = n;
@@ -127,6 +130,7 @@ module _ {T : Type 0} {Hears : T → List ℕ → T → Type 0} {Ends : T → T 
     at_end = λ some g. e some;
     patient = tt;
     used_up = λ g. cc;
+    some_turn = λ f g. cc;
   })
 
   pub all-used : n ≡ most_turns → Conversed Hears Ends output messages room left left' wrote wrote' said said' s (Err UsedUp) t
@@ -142,6 +146,7 @@ module _ {T : Type 0} {Hears : T → List ℕ → T → Type 0} {Ends : T → T 
     at_end = λ some g. cc;
     patient = tt;
     used_up = λ g. e;
+    some_turn = λ why g. cc;
   }
 
 wrote-front : (r : Result (Unit {0}) Stop) {a b : Option (List ℕ)} {xs : List ℕ} → Wrote r a b xs → AppendsFront a b xs

@@ -2,6 +2,7 @@
 -- Assumes nothing.
 use Rattle.std.specs.Prelude.{ℕ, ◌+◌, ◌^◌, ◌<◌, ◌≡◌, Bool, true, false, List, [], ◌++◌, length, ⊤, Option, Result, Ok, Err}
 use Rattle.std.specs.Io.KnownBytes.{Appends, Consumes, IsAtEnd}
+use Rattle.std.specs.declared.io.Error.{Error}
 use Rattle.conversation.specs.Pouring.{AppendsFront}
 use Rattle.conversation.specs.Reading.{IsInterrupted}
 use Rattle.conversation.specs.declared.Stop.{Stop}
@@ -58,8 +59,8 @@ NotInterrupted (Err (LastWrite e)) = ⊤
 NotInterrupted (Err UsedUp) = ⊤
 
 -- What was read is what the reader lost, and what was given is what the writers got, where the bytes of each are known. The loop stops
--- at the end of the input, at a failure that no signal caused, or where the turns are used up. Where there is no `room` for a byte, a read
--- that brings nothing says nothing of the end.
+-- at the end of the input, at a failure that no signal caused, or where the turns are used up. A write fails only of what a turn gave, or
+-- of what the end did. Where there is no `room` for a byte, a read that brings nothing says nothing of the end.
 pub record Conversed {T : Type 0} (Hears : T → List ℕ → T → Type 0) (Ends : T → T → Type 0) (output messages : T → List ℕ)
     (room : ℕ) (left left' wrote wrote' said said' : Option (List ℕ)) (s : T) (r : Result (Unit {0}) Stop) (t : T) : Type 0 where
   pub made : ℕ
@@ -73,3 +74,4 @@ pub record Conversed {T : Type 0} (Hears : T → List ℕ → T → Type 0) (End
   pub at_end : 0 < room → is_final r ≡ true → IsAtEnd left'
   pub patient : NotInterrupted r
   pub used_up : r ≡ Err UsedUp → made ≡ most_turns
+  pub some_turn : (e : Error) → r ≡ Err (Write e) → 0 < made

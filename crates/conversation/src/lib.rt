@@ -32,8 +32,13 @@ pub trait Teller {
 
     ghost complains: { Self → List ℕ → List ℕ };
 
-    // How many bytes a piece may have.
+    // How many bytes a piece may have, one at least.
     ghost room: { ℕ };
+
+    ghost some_room: { 0 < room };
+
+    fn room() -> usize
+        ensures { result ≡ room };
 
     fn hear(&mut self, piece: &[u8])
         requires { length piece.now ≤ room }
@@ -91,9 +96,9 @@ fn deliver<T: Teller, W: Write, E: Write>(
 }
 
 // Reads to the end of the input, and writes what the teller gives to each piece before the next read; `piece` is room for what one read
-// brings; with no room, the first read is taken for the end. A read or a write that fails ends it: answers behind a lost one would be
-// taken for others. A proved loop has to end, and nothing says that an input does, so the turns are counted, up to a number that no run
-// uses up.
+// brings, used as far as the teller may hear it at once; with no room, the first read is taken for the end. A read or a write that fails
+// ends it: answers behind a lost one would be taken for others. A proved loop has to end, and nothing says that an input does, so the
+// turns are counted, up to a number that no run uses up.
 pub fn converse<T: Teller, R: Read, W: Write, E: Write>(
     teller: &mut T,
     piece: &mut [u8],
@@ -101,7 +106,6 @@ pub fn converse<T: Teller, R: Read, W: Write, E: Write>(
     output: &mut W,
     errors: &mut E,
 ) -> Result<(), Stop>
-    requires room { length piece.old ≤ T.room }
     ensures conversed { Conversed T.Hears T.Ends T.output T.messages (length piece.old) (R.remaining input.old) (R.remaining input.new)
         (W.contents output.old) (W.contents output.new) (E.contents errors.old) (E.contents errors.new) teller.old result teller.new }
     ensures all { 0 < length piece.old → OnOk result (IfSome (R.remaining input.old) (λ bytes.
@@ -110,14 +114,21 @@ pub fn converse<T: Teller, R: Read, W: Write, E: Write>(
     ensures beginning { 0 < length piece.old → IfSome (R.remaining input.old) (λ bytes.
         AppendsFront (W.contents output.old) (W.contents output.new) (T.tells teller.old bytes)) }
 {
+    let most = T::room().min(piece.len());
+    let piece = &mut piece[..most];
     for _turn in 0..=u64::MAX {
-        let n = read_some(input, piece).map_err(Stop::Read)?;
-        if n == 0 {
+        let heard = read_some(input, piece);
+        let n = heard.map_err(Stop::Read)?;
+        let ended = n == 0;
+        if ended {
             teller.end();
             return deliver(teller, output, errors).map_err(Stop::LastWrite);
         }
         teller.hear(&piece[..n]);
-        deliver(teller, output, errors).map_err(Stop::Write)?;
+        let wrote = deliver(teller, output, errors).map_err(Stop::Write);
+        if wrote.is_err() {
+            return wrote;
+        }
     }
     Err(Stop::UsedUp)
 }

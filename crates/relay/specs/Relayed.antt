@@ -1,4 +1,4 @@
--- What the loop of a program that tells lines comes to, from the start; `told` is what a line with its number gives.
+-- What the loop of a program that tells lines comes to; `told` is what a line with its number gives.
 -- Assumes nothing.
 use Rattle.std.specs.Prelude.{ℕ, ◌≡◌, List, Option, Result, take}
 use Rattle.conversation.specs.declared.Stop.{Stop}
@@ -20,6 +20,12 @@ abbrev pub LineTurns : (ℕ → List ℕ → Texts) → Fed → ℕ → List ℕ
 LineTurns told = Turns (HearsLines told) out_of err_of
 
 -- The turns, and where the input has ended its last line; and what was read and written of them.
+abbrev pub Relayed : (ℕ → List ℕ → Texts) → Option (List ℕ) → Option (List ℕ) → Option (List ℕ) → Option (List ℕ) → Option (List ℕ) → Option (List ℕ)
+    → Fed → Result (Unit {0}) Stop → Fed → Type 0
+Relayed told left left' wrote wrote' said said' s r t =
+    Conversed (HearsLines told) (EndsLines told) out_of err_of piece_room left left' wrote wrote' said said' s r t
+
+-- The same from line 1.
 pub record RelayedNew (told : ℕ → List ℕ → Texts) (left left' wrote wrote' said said' : Option (List ℕ)) (r : Result (Unit {0}) Stop) : Type 0 where
   pub last : Fed
-  pub relayed : Conversed (HearsLines told) (EndsLines told) out_of err_of piece_room left left' wrote wrote' said said' new_telling r last
+  pub relayed : Relayed told left left' wrote wrote' said said' new_telling r last

@@ -7,6 +7,7 @@ use Rattle.run.proofs.Kept.{feed-alike, finish-alike}
 use Rattle.run.proofs.Pieces.{feed-append, feed-answers}
 use Rattle.conversation.specs.Conversation.{no_turn, next_turn, Course, stopped, to_the_end}
 use Rattle.service.specs.Calls.{RanAll, HearsCalls, EndsCalls, new_run}
+use Rattle.service.specs.Laws.{heard-all}
 use Rattle.service.specs.Served.{written_by, no_messages}
 use Rattle.service.specs.Claims.{TurnsRun, ServeBegins, ServeWrites, ServeEnds}
 
@@ -29,7 +30,7 @@ pub turns-run : TurnsRun
 unfolding feed
 turns-run s t n input given messages no_turn = record { machine = refl; line = refl; written = refl }
 turns-run s t n input given messages (next_turn {t = r} {input = before} {out = wrote} piece turns some h) =
-    ran-more before piece wrote t.written (turns-run s r _ before wrote _ turns) h
+    ran-more before piece wrote t.written (turns-run s r _ before wrote _ turns) (heard-all piece h)
 
 pub serve-begins : ServeBegins
 unfolding program

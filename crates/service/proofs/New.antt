@@ -17,7 +17,6 @@ use Rattle.run.proofs.Pieces.{feed-answers}
 use Rattle.run.specs.Session.{NewSession, new_keys, new_rows, runner_in, SoundSession}
 use Rattle.conversation.specs.declared.Stop.{Stop}
 use Rattle.conversation.specs.Pouring.{AppendsFront}
-use Rattle.conversation.specs.Conversation.{Fronts}
 use Rattle.service.specs.Calls.{new_run, answers_from}
 
 pub new-sound-session : (s : Session) → NewSession s → SoundSession new_keys new_rows s
@@ -36,12 +35,12 @@ unfolding program
 answers-new bytes e = ap (λ (f : Fed). answers_from f.runner bytes) e ∙ feed-answers start bytes
 
 -- What a run from there writes is what the program writes.
-pub new-writes : (left wrote wrote' said said' : Option (List ℕ)) {s : Fed} (r : Result (Unit {0}) Stop) → s ≡ new_run
-    → OnOk r (IfSome left (λ bytes. Appends wrote wrote' (answers_from s.runner bytes) × Fronts said said' []))
+pub new-writes : (left wrote wrote' : Option (List ℕ)) {s : Fed} (r : Result (Unit {0}) Stop) → s ≡ new_run
+    → OnOk r (IfSome left (λ bytes. Appends wrote wrote' (answers_from s.runner bytes)))
     → OnOk r (IfSome left (λ bytes. Appends wrote wrote' (program bytes)))
-new-writes left wrote wrote' said said' (Err stop) e h = tt
-new-writes None wrote wrote' said said' (Ok u) e h = tt
-new-writes (Some bytes) wrote wrote' said said' (Ok u) e h = subst (λ (w : List ℕ). Appends wrote wrote' w) (answers-new bytes e) h.0
+new-writes left wrote wrote' (Err stop) e h = tt
+new-writes None wrote wrote' (Ok u) e h = tt
+new-writes (Some bytes) wrote wrote' (Ok u) e h = subst (λ (w : List ℕ). Appends wrote wrote' w) (answers-new bytes e) h
 
 pub new-begins : (left wrote wrote' : Option (List ℕ)) {s : Fed} → s ≡ new_run
     → IfSome left (λ bytes. AppendsFront wrote wrote' (answers_from s.runner bytes))

@@ -15,8 +15,11 @@ pub record RanAll (from : Runner) (input given : List ℕ) (to : Runner) : Type 
   pub line : take kept_length to.line ≡ take kept_length (feed from input).runner.line
   pub written : given ≡ (feed from input).written
 
-abbrev pub HearsCalls : Fed → List ℕ → Fed → Type 0
-HearsCalls s piece t = RanAll s.runner piece t.written t.runner
+-- A piece is run over; of a line that it does not finish the beginning is kept.
+pub record HearsCalls (s : Fed) (piece : List ℕ) (t : Fed) : Type 0 where
+  pub machine : t.runner.machine ≡ (feed s.runner piece).runner.machine
+  pub line : t.runner.line ≡ take kept_length (feed s.runner piece).runner.line
+  pub written : t.written ≡ (feed s.runner piece).written
 
 -- At the end of the input a last line without its newline is answered, and none is left.
 pub record EndsCalls (s t : Fed) : Type 0 where

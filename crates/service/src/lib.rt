@@ -7,8 +7,8 @@ ghost use Rattle.std.specs.Prelude.{◌≡◌, OnOk, IfSome};
 ghost use Rattle.std.specs.Io.KnownBytes.{Appends};
 ghost use Rattle.run.specs.Run.{program};
 ghost use Rattle.conversation.specs.Pouring.{AppendsFront};
-ghost use Rattle.service.specs.Calls.{new_run};
-ghost use Rattle.service.specs.Served.{ServedNew};
+ghost use Rattle.service.specs.Calls.{new_run, answers_from};
+ghost use Rattle.service.specs.Served.{Served, ServedNew};
 
 use conversation::{Stop, Teller, converse};
 use keys::{ROWS, SLOTS};
@@ -85,7 +85,7 @@ impl CallTeller {
 impl Teller for CallTeller {
     ghost use Rattle.std.specs.Prelude.{[]};
     ghost use Rattle.service.specs.Calls.{piece_room, HearsCalls, EndsCalls, answers_from};
-    ghost use Rattle.service.specs.Laws.{calls-hear-on, calls-end-so};
+    ghost use Rattle.service.specs.Laws.{calls-hear-on, calls-end-so, room-is-some};
 
     ghost Hears = { HearsCalls };
 
@@ -100,6 +100,12 @@ impl Teller for CallTeller {
     ghost complains = { λ s rest. [] };
 
     ghost room = { piece_room };
+
+    ghost some_room = { room-is-some };
+
+    fn room() -> usize {
+        PIECE
+    }
 
     ghost hears_on = { calls-hear-on };
 
@@ -131,7 +137,30 @@ impl Teller for CallTeller {
     }
 }
 
-// Answers every line of the input, those that a read completed before the next read, from the new machine.
+// Answers every line of the input, those that a read completed before the next read, from where the run stands; `session` says where it
+// stands then, and `output` what was given last.
+pub fn serve_on<R: Read, W: Write>(
+    rt: &impl Eprint,
+    teller: &mut CallTeller,
+    input: &mut R,
+    output: &mut W,
+) -> Result<(), Stop>
+    ensures served { Served (R.remaining input.old) (R.remaining input.new) (W.contents output.old) (W.contents output.new)
+        teller.old result teller.new }
+    ensures all { OnOk result (IfSome (R.remaining input.old) (λ bytes.
+        Appends (W.contents output.old) (W.contents output.new) (answers_from teller.old.runner bytes))) }
+    ensures beginning { IfSome (R.remaining input.old) (λ bytes.
+        AppendsFront (W.contents output.old) (W.contents output.new) (answers_from teller.old.runner bytes)) }
+{
+    let mut piece = [0u8; PIECE];
+    let ended = converse(teller, &mut piece, input, output, &mut io::sink());
+    if let Err(stop) = ended {
+        let _ = eprintln!(rt; "picman: {stop}");
+    }
+    ended
+}
+
+// The same from the new machine.
 pub fn serve<R: Read, W: Write>(rt: &impl Eprint, input: &mut R, output: &mut W) -> Result<(), Stop>
     ensures served { ServedNew (R.remaining input.old) (R.remaining input.new) (W.contents output.old) (W.contents output.new) result }
     ensures all { OnOk result (IfSome (R.remaining input.old) (λ bytes.
@@ -139,11 +168,6 @@ pub fn serve<R: Read, W: Write>(rt: &impl Eprint, input: &mut R, output: &mut W)
     ensures beginning { IfSome (R.remaining input.old) (λ bytes.
         AppendsFront (W.contents output.old) (W.contents output.new) (program bytes)) }
 {
-    let mut piece = [0u8; PIECE];
     let mut teller = CallTeller::new();
-    let ended = converse(&mut teller, &mut piece, input, output, &mut io::sink());
-    if let Err(stop) = ended {
-        let _ = eprintln!(rt; "picman: {stop}");
-    }
-    ended
+    serve_on(rt, &mut teller, input, output)
 }
