@@ -1,3 +1,4 @@
+pub mod Expected
 pub mod Words
 pub mod Numbers
 pub mod Drafts

@@ -171,7 +171,7 @@ impl ListParts {
 impl Draft {
     // The draft with one more word, where it fits.
     #[tactic(auto, unfolding(crate::specs::Drafts::next))]
-    fn next(self, word: &[u8]) -> Option<Draft>
+    pub fn next(self, word: &[u8]) -> Option<Draft>
         ensures { result ≡ next self word.now }
     {
         match self {
@@ -214,7 +214,7 @@ impl Draft {
     }
 
     // What has to come next.
-    fn expected(self) -> Expected
+    pub fn expected(self) -> Expected
         ensures { result ≡ expected self }
     {
         match self {

@@ -3,11 +3,12 @@
 
 ghost use Rattle.std.specs.Prelude.{◌≡◌};
 ghost use Rattle.std.specs.List.{before_first, position};
+ghost use Rattle.commands.specs.Expected.{expected_of};
 ghost use Rattle.commands.specs.Words.{is_space, is_hash};
 ghost use Rattle.commands.specs.Commands.{read_command, CommandFits};
 
-mod draft;
-mod numbers;
+pub mod draft;
+pub mod numbers;
 
 use draft::Draft;
 use line::Call;
@@ -29,6 +30,30 @@ pub enum Expected {
     Limit,
     End,
     ShorterLine,
+}
+
+// What is expected by its number. Any number past the last stands for the end of the line.
+impl From<u8> for Expected {
+    ghost from_gives = { λ number want. want ≡ expected_of number };
+
+    fn from(number: u8) -> Self {
+        match number {
+            0 => Expected::Command,
+            1 => Expected::First,
+            2 => Expected::Second,
+            3 => Expected::Slice,
+            4 => Expected::Number,
+            5 => Expected::Picture,
+            6 => Expected::PutPart,
+            7 => Expected::ListPart,
+            8 => Expected::Layer,
+            9 => Expected::Gap,
+            10 => Expected::Intra,
+            11 => Expected::Limit,
+            13 => Expected::ShorterLine,
+            _ => Expected::End,
+        }
+    }
 }
 
 fn is_space(c: u8) -> bool

@@ -1,4 +1,4 @@
-// Words for people in fixed memory: numbers in decimal behind a text, and a text put into a lent buffer.
+// Words for people in fixed memory: numbers in decimal behind a text, and texts and numbers put into a lent buffer.
 #![tactic(auto)]
 
 ghost use Rattle.std.specs.Prelude.{◌≡◌, ◌+◌, ◌≤◌, ◌++◌, length};
@@ -14,8 +14,7 @@ pub type Phrase = ArrayString<60>;
 // The words of a whole line, newline and all.
 pub type Sentence = ArrayString<128>;
 
-// Puts a text into the buffer from a place on, and gives the place behind it. `telling` begins at the front alone; the promise is of any
-// place.
+// Puts a text into the buffer from a place on, and gives the place behind it.
 pub fn add(out: &mut [u8], at: usize, text: &[u8]) -> usize
     requires { at + length text.now ≤ length out.old }
     ensures { Added out.old at text.now result out.new }
@@ -23,6 +22,15 @@ pub fn add(out: &mut [u8], at: usize, text: &[u8]) -> usize
     let end = at + text.len();
     out[at..end].copy_from_slice(text);
     end
+}
+
+// Puts a number in decimal into the buffer from a place on, and gives the place behind it.
+pub fn add_number(out: &mut [u8], at: usize, n: u64) -> usize
+    requires { at + 20 ≤ length out.old }
+    ensures added { Added out.old at (decimal n) result out.new }
+    ensures short { result ≤ at + 20 }
+{
+    add(out, at, Buffer::new().format(n).as_bytes())
 }
 
 // Puts a number in decimal behind a text. Not by `write!`: it promises its text only where it gives Ok, and no clause says when it does;

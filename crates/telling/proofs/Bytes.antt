@@ -4,16 +4,21 @@ use Prim.Native.Nat.{ℕ, ◌+◌, ◌-◌, ◌*◌, ◌≤◌, ◌<◌}
 use native.Mathlib.Numerals.{add-one}
 use native.Mathlib.Omega.{arith}
 use mathlib.Core.Path.{◌≡◌, refl, sym, ap, ◌∙◌}
+use mathlib.Core.Bool.{Bool, true, false, cond}
+use mathlib.Core.Logic.{⊎_elim}
 use mathlib.Core.List.{List, [], ◌∷◌, ◌++◌, append_assoc, append-nil}
 use lib.ListN.{length, get_or, take, drop, length-append, length-drop}
-use lib.Seq.{take_all, take_at, take-suc, length-take-le}
+use lib.Seq.{take_all, take_at, take-suc, length-take-le, length-sets}
 use borrow.Rule.Slice.PartMut.{mid_of, post_of, put_mid}
+use Rattle.std.proofs.lemmas.List.{take-append-le, length-take, nil_from_length}
+use Rattle.seq.proofs.Tests.{lt-or-ge}
+use Rattle.buffer.specs.Buffer.{is_newline}
 use Rattle.phrases.specs.Phrases.{Added}
-use Rattle.phrases.proofs.Adding.{added-front}
+use Rattle.phrases.proofs.Adding.{added-front, added_then}
 use Rattle.asking.specs.Asked.{Texts, texts}
 use Rattle.telling.specs.Told.{joined, next_number}
-use Rattle.telling.specs.Telling.{kept, most, Speaker, speaker, Fed, fed, kept_more, feed_byte, feed, finish, Gives, Wrote}
-use Rattle.telling.specs.Laws.{feed-append}
+use Rattle.telling.specs.Telling.{kept, most, Speaker, speaker, Fed, fed, kept_more, feed_byte, feed, finish, Gives, GivesPiece, PieceRoom, ToldPiece, Wrote}
+use Rattle.telling.specs.Laws.{feed-append, joined-assoc}
 
 -- ---- a byte of the line
 
@@ -25,6 +30,24 @@ keep-more line c number t h =
 pub keep-full : (line : List ℕ) (c number : ℕ) (t : Texts) → length line ≡ kept
     → fed (speaker line number) t ≡ kept_more (fed (speaker line number) t) c
 keep-full line c number t full = ap (λ (l : List ℕ). fed (speaker l number) t) (sym (take_at line (c ∷ []) kept full))
+
+-- Of what is kept of a line and one character more, as much is kept as of the whole.
+keep-kept : (line more : List ℕ) → take kept (take kept line ++ more) ≡ take kept (line ++ more)
+keep-kept line more =
+    ⊎_elim (λ (h : length line < kept). ap (λ (l : List ℕ). take kept (l ++ more)) (take_all kept line (omega arith)))
+    (λ (h : kept ≤ length line).
+    take_at (take kept line) more kept (length-take-le kept line h) ∙ sym (take-append-le kept line more h))
+    (lt-or-ge (length line) kept)
+
+pub keep-so-far : (line : List ℕ) (i number : ℕ) {t u : Fed} → i < length line → t ≡ fed (speaker (take kept (take i line)) number) (texts [] [])
+    → u ≡ kept_more t (get_or line i 0) → u ≡ fed (speaker (take kept (take (i + 1) line)) number) (texts [] [])
+keep-so-far line i number {t} {u} h e f =
+    let c = get_or line i 0 in
+    let front : take (i + 1) line ≡ take i line ++ (c ∷ []) = rw add-one (take-suc line i 0 h) in
+    let all : take kept (take kept (take i line) ++ (c ∷ [])) ≡ take kept (take (i + 1) line) = keep-kept (take i line) (c ∷ []) ∙ ap (take kept) (sym front) in
+    f
+    ∙ ap (λ (x : Fed). kept_more x c) e
+    ∙ ap (λ (l : List ℕ). fed (speaker l number) (texts [] [])) all
 
 -- ---- the end of the line
 
@@ -112,6 +135,94 @@ so-far-more told s piece i {t} {u} h f g =
           ∙ sym all;
       out_most = omega arith;
       err_most = omega arith;
+    }
+
+-- ---- a piece of any length
+
+-- Of a piece all but the rest has been told: what it gave stands at the fronts of the buffers, and there is room for what the rest gives.
+pub record PartsTold (told : ℕ → List ℕ → Texts) (s : Speaker) (piece out err : List ℕ) (t : Fed) (rest out' err' : List ℕ) (m n : ℕ) : Type 0 where
+  pub done : Texts
+  pub all :
+      let last = feed told t.speaker rest in
+      feed told s piece ≡ fed last.speaker (joined done last.texts)
+  pub to_out : Added out 0 done.out m out'
+  pub to_err : Added err 0 done.err n err'
+  pub out_room : m + most * length rest ≤ length out'
+  pub err_room : n + most * length rest ≤ length err'
+
+pub no-parts : (told : ℕ → List ℕ → Texts) (t : Fed) (piece out err : List ℕ) → PieceRoom piece out err
+    → PartsTold told t.speaker piece out err t piece out err 0 0
+no-parts told t piece out err r =
+    let a = r.out_room in
+    let b = r.err_room in
+    record {
+      done = texts [] [];
+      all = refl;
+      to_out = record { holds = refl; behind = refl };
+      to_err = record { holds = refl; behind = refl };
+      out_room = omega arith;
+      err_room = omega arith;
+    }
+
+room-after : (part left : List ℕ) {before after text rest : List ℕ} {at next : ℕ} → rest ≡ part ++ left → length text ≤ most * length part
+    → at + most * length rest ≤ length before → Added before at text next after → next + most * length left ≤ length after
+room-after part left {before} {after} {text} {rest} {at} {next} e short room p =
+    let b = p.behind in
+    let size : length after ≡ length before = ap length p.holds ∙ length-sets before at text in
+    let parts : length rest ≡ length part + length left = ap length e ∙ length-append part left in
+    omega arith
+
+pub one-part-more : (told : ℕ → List ℕ → Texts) (s : Speaker) (piece out err : List ℕ) {t u : Fed} {rest part left out₁ err₁ out₂ err₂ : List ℕ} {m n j k : ℕ}
+    → PartsTold told s piece out err t rest out₁ err₁ m n → rest ≡ part ++ left → GivesPiece told t part u
+    → Added out₁ m u.texts.out j out₂ → Added err₁ n u.texts.err k err₂ → PartsTold told s piece out err u left out₂ err₂ j k
+one-part-more told s piece out err {t} {u} {rest} {part} {left} {out₁} {err₁} {out₂} {err₂} {m} {n} {j} {k} p e g a b =
+    let f = feed told t.speaker part in
+    let last = feed told f.speaker left in
+    record {
+      done = joined p.done u.texts;
+      all =
+          p.all
+          ∙ ap (λ (x : Fed). fed x.speaker (joined p.done x.texts)) (ap (feed told t.speaker) e ∙ feed-append told t.speaker part left)
+          ∙ ap (fed last.speaker) (sym (joined-assoc p.done f.texts last.texts))
+          ∙ ap
+          (λ (x : Fed).
+          let end = feed told x.speaker left in
+          fed end.speaker (joined (joined p.done x.texts) end.texts))
+          (sym g.is);
+      to_out = added_then p.to_out a;
+      to_err = added_then p.to_err b;
+      out_room = room-after part left e g.out_short p.out_room a;
+      err_room = room-after part left e g.err_short p.err_room b;
+    }
+
+byte-keeps : (told : ℕ → List ℕ → Texts) (s : Speaker) (c : ℕ) → length (feed_byte told s c).speaker.line ≤ kept
+byte-keeps told s c = by (is_newline c)
+  where
+    by : (b : Bool) → length (cond b (fed (speaker [] (next_number s.number)) (told s.number s.line))
+        (fed (speaker (take kept (s.line ++ (c ∷ []))) s.number) (texts [] []))).speaker.line ≤ kept
+    by true = omega arith
+    by false = let m = length-take kept (s.line ++ (c ∷ [])) in omega arith
+
+feed-keeps : (told : ℕ → List ℕ → Texts) (s : Speaker) (piece : List ℕ) → length s.line ≤ kept → length (feed told s piece).speaker.line ≤ kept
+unfolding feed
+feed-keeps told s [] h = h
+feed-keeps told s (c ∷ cs) h = feed-keeps told (feed_byte told s c).speaker cs (byte-keeps told s c)
+
+pub all-parts : (told : ℕ → List ℕ → Texts) (s : Speaker) (piece out err : List ℕ) {t : Fed} {rest out' err' : List ℕ} {m n : ℕ}
+    → PartsTold told s piece out err t rest out' err' m n → length rest ≡ 0 → ToldPiece told s piece out err m n t.speaker out' err'
+unfolding feed
+all-parts told s piece out err {t} {rest} {out'} {err'} {m} {n} p none =
+    let all : feed told s piece ≡ fed t.speaker p.done =
+    rw (nil_from_length rest none) at p.all ∙ ap (fed t.speaker) (nothing-after p.done) in
+    let a = p.out_room in
+    let b = p.err_room in
+    record {
+      speaker_is = ap (λ (x : Fed). x.speaker) (sym all);
+      keeps = λ h. rw (← ap (λ (x : Fed). x.speaker) all) (feed-keeps told s piece h);
+      to_out = rw all p.to_out;
+      to_err = rw all p.to_err;
+      out_fits = omega arith;
+      err_fits = omega arith;
     }
 
 -- ---- the last line

@@ -15,7 +15,7 @@ use Rattle.expecting.specs.Expected.{expected_words}
 use Rattle.asking.specs.Asked.{Texts, texts, asked}
 use Rattle.saying.specs.Words.{bad_line_words, said_line}
 use Rattle.telling.specs.Told.{joined, said}
-use Rattle.telling.specs.Telling.{kept, Speaker, Fed, fed, feed_byte, feed, finish, gives, HearsLines, EndsLines}
+use Rattle.telling.specs.Telling.{kept, Speaker, Fed, fed, feed_byte, feed, finish, gives, HearsLines, EndsLines, piece_room}
 
 -- ---- what is kept of a line
 
@@ -83,3 +83,6 @@ pub lines-end-so : (told : ℕ → List ℕ → Texts) (s t : Fed) → EndsLines
     → ((gives told s.speaker []).out ≡ t.texts.out) × ((gives told s.speaker []).err ≡ t.texts.err)
 unfolding feed
 lines-end-so told s t h = (ap (λ (f : Fed). f.texts.out) (sym h), ap (λ (f : Fed). f.texts.err) (sym h))
+
+pub room-is-some : 0 < piece_room
+room-is-some = omega arith

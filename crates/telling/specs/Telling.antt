@@ -68,6 +68,22 @@ HearsLines told s piece t = t ≡ feed told s.speaker piece
 abbrev pub EndsLines : (ℕ → List ℕ → Texts) → Fed → Fed → Type 0
 EndsLines told s t = t ≡ finish told s.speaker
 
+-- ---- a piece of any length
+
+-- There is room for what a line gives for each byte.
+pub record PieceRoom (piece out err : List ℕ) : Type 0 where
+  pub out_room : most * length piece ≤ length out
+  pub err_room : most * length piece ≤ length err
+
+-- A piece of the input: its texts stand at the fronts of the buffers, which are else as they were.
+pub record ToldPiece (told : ℕ → List ℕ → Texts) (s : Speaker) (piece out err : List ℕ) (m n : ℕ) (s' : Speaker) (out' err' : List ℕ) : Type 0 where
+  pub speaker_is : s' ≡ (feed told s piece).speaker
+  pub keeps : length s.line ≤ kept → length s'.line ≤ kept
+  pub to_out : Added out 0 (feed told s piece).texts.out m out'
+  pub to_err : Added err 0 (feed told s piece).texts.err n err'
+  pub out_fits : m ≤ length out'
+  pub err_fits : n ≤ length err'
+
 -- ---- one byte more
 
 -- One more character is kept of the line, where there is room.
@@ -91,3 +107,9 @@ pub record Gives (told : ℕ → List ℕ → Texts) (s : Fed) (c : ℕ) (t : Fe
   pub is : t ≡ fed (feed_byte told s.speaker c).speaker (joined s.texts (feed_byte told s.speaker c).texts)
   pub out_short : length t.texts.out ≤ length s.texts.out + most
   pub err_short : length t.texts.err ≤ length s.texts.err + most
+
+-- A piece that a teller may hear: its texts, and how long they are at most.
+pub record GivesPiece (told : ℕ → List ℕ → Texts) (s : Fed) (piece : List ℕ) (t : Fed) : Type 0 where
+  pub is : t ≡ feed told s.speaker piece
+  pub out_short : length t.texts.out ≤ most * length piece
+  pub err_short : length t.texts.err ≤ most * length piece

@@ -2,26 +2,27 @@
 // put behind those of the lines before, so what stands in the buffers after a piece of the input is what its lines give.
 #![tactic(auto)]
 
-ghost use Rattle.std.specs.Prelude.{ℕ, ◌≤◌, ◌≡◌, List, length, take};
+ghost use Rattle.std.specs.Prelude.{ℕ, ◌≤◌, ◌≡◌, List, [], length, take};
 ghost use Rattle.buffer.specs.Buffer.{newline};
-ghost use Rattle.asking.specs.Asked.{Texts};
-ghost use Rattle.telling.specs.Telling.{most, kept, Wrote, speaker, new_telling, kept_more, HasRoom, Gives};
+ghost use Rattle.asking.specs.Asked.{Texts, texts};
+ghost use Rattle.telling.specs.Telling.{most, kept, Wrote, speaker, fed, new_telling, kept_more, HasRoom};
+ghost use Rattle.telling.specs.Telling.{Gives, GivesPiece, PieceRoom, ToldPiece, piece_room};
 
 use arrayvec::ArrayVec;
 use asking::{LONGEST, ask_line};
 use conversation::Teller;
 use phrases::add;
-use saying::say_line;
+use saying::put_line;
 use std::marker::{Model, PhantomData};
 
 // What one read brings at most.
 pub const PIECE: usize = 1024;
 
 // One character more than a line may have is kept of it: then it is too long, whatever follows.
-const KEPT: usize = LONGEST + 1;
+pub const KEPT: usize = LONGEST + 1;
 
 // No line gives more bytes.
-const MOST: usize = 128;
+pub const MOST: usize = 128;
 
 // Room for what a line gives for each byte, since each may be a newline.
 const TEXTS: usize = PIECE * MOST;
@@ -49,6 +50,7 @@ pub trait Lines {
 }
 
 // Commands, told as the lines of their calls.
+#[derive(Clone, Copy)]
 pub struct Commands;
 
 impl Lines for Commands {
@@ -75,6 +77,7 @@ impl Lines for Commands {
 }
 
 // Answer lines, told in words.
+#[derive(Clone, Copy)]
 pub struct Answers;
 
 impl Lines for Answers {
@@ -87,13 +90,13 @@ impl Lines for Answers {
 
     fn tell(out: &mut [u8], _err: &mut [u8], line: &[u8], number: u64) -> Told {
         Told {
-            out: add(out, 0, say_line(line, number).as_str().as_bytes()),
+            out: put_line(out, line, number),
             err: 0,
         }
     }
 }
 
-// What is kept of the line that is not finished, and its number; and what the last piece gave, at the fronts of the two buffers, which are
+// What is kept of the line that is not finished, and its number; and what the last piece, or its last part, gave, at the fronts of the two buffers, which are
 // arrays, since what a line gives is written into the rest of them.
 #[derive(Drop)]
 pub struct LineTeller<L> {
@@ -132,9 +135,22 @@ impl<L: Lines> LineTeller<L> {
         }
     }
 
+    // Goes on within a line: the characters of it so far, and its number.
+    pub fn from_line(line: &[u8], number: u64) -> LineTeller<L>
+        ensures { result ≡ fed (speaker (take kept line.now) number) (texts [] []) }
+    {
+        let mut teller = LineTeller::<L>::new();
+        teller.number = number;
+        for c in line {
+            teller.keep(*c);
+        }
+        teller
+    }
+
     // What is kept of the line that is not finished, and its number.
     pub fn line(&self) -> (&[u8], u64)
-        ensures { speaker result.0.now result.1 ≡ self.now.speaker }
+        ensures stands { speaker result.0.now result.1 ≡ self.now.speaker }
+        ensures keeps { length result.0.now ≤ kept }
     {
         (self.held.as_slice(), self.number)
     }
@@ -176,11 +192,22 @@ impl<L: Lines> LineTeller<L> {
             self.keep(c);
         }
     }
+
+    // The bytes of a piece of the input.
+    fn take_piece(&mut self, piece: &[u8])
+        requires { length piece.now ≤ piece_room }
+        ensures { GivesPiece L.told self.old piece.now self.new }
+    {
+        self.told = Told { out: 0, err: 0 };
+        for c in piece {
+            self.take_byte(*c);
+        }
+    }
 }
 
 impl<L: Lines> Teller for LineTeller<L> {
     ghost use Rattle.telling.specs.Telling.{HearsLines, EndsLines, gives, piece_room};
-    ghost use Rattle.telling.specs.Laws.{lines-hear-on, lines-end-so};
+    ghost use Rattle.telling.specs.Laws.{lines-hear-on, lines-end-so, room-is-some};
 
     ghost Hears = { HearsLines L.told };
 
@@ -196,15 +223,18 @@ impl<L: Lines> Teller for LineTeller<L> {
 
     ghost room = { piece_room };
 
+    ghost some_room = { room-is-some };
+
+    fn room() -> usize {
+        PIECE
+    }
+
     ghost hears_on = { lines-hear-on L.told };
 
     ghost ends_so = { lines-end-so L.told };
 
     fn hear(&mut self, piece: &[u8]) {
-        self.told = Told { out: 0, err: 0 };
-        for c in piece {
-            self.take_byte(*c);
-        }
+        self.take_piece(piece);
     }
 
     // A last line that lacks its newline is told as if it had one.
@@ -222,4 +252,24 @@ impl<L: Lines> Teller for LineTeller<L> {
     fn messages(&self) -> &[u8] {
         &self.err[..self.told.err]
     }
+}
+
+// A piece of the input of any length, in parts that a teller may hear; the buffers have room for what a line gives for each byte.
+pub fn tell_piece<L: Lines>(
+    teller: &mut LineTeller<L>,
+    piece: &[u8],
+    out: &mut [u8],
+    err: &mut [u8],
+) -> Told
+    requires { PieceRoom piece.now out.old err.old }
+    ensures { ToldPiece L.told teller.old.speaker piece.now out.old err.old
+        result.out result.err teller.new.speaker out.new err.new }
+{
+    let mut told = Told { out: 0, err: 0 };
+    for part in piece.chunks(PIECE) {
+        teller.take_piece(part);
+        told.out = add(out, told.out, teller.output());
+        told.err = add(err, told.err, teller.messages());
+    }
+    told
 }

@@ -1,6 +1,6 @@
 -- Byte after byte.
 use Rattle.telling.proofs.Bytes.{so-far-none, so-far-more}
-use Rattle.telling.proofs.LineTellerTeller.hear.Goals as goal
+use Rattle.telling.proofs.LineTeller.take_piece.Goals as goal
 
 pub loop-c-init : goal.loop-c-init
 loop-c-init g c = rw (← c.self.view_is) (so-far-none g.L.Lines.told _ _)

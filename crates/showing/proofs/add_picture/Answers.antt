@@ -1,0 +1,6 @@
+-- Its parts stand one behind the other.
+use Rattle.phrases.proofs.Adding.{added_then}
+use Rattle.showing.proofs.add_picture.Goals as goal
+
+pub returns-clause-added : goal.returns-clause-added
+returns-clause-added c = rw (← c.from.ensures, ← c.from-2.ensures) (added_then c.add-a.ensures (added_then c.add_number-b.ensures.added (added_then c.add-c.ensures c.add_number.ensures.added)))
