@@ -1,6 +1,6 @@
 -- A state that came and was opened: whether it is whole, and that keys, rows and rest then stand for it.
 -- Assumes nothing.
-use mathlib.Core.Path.{◌≡◌, sym, ap, ◌∙◌}
+use mathlib.Core.Path.{◌≡◌, refl, sym, ap, ◌∙◌}
 use mathlib.Core.Bool.{true, false}
 use mathlib.Core.List.{List}
 use Prim.Native.Nat.{ℕ}
@@ -12,6 +12,10 @@ use Rattle.keys.specs.declared.{Rest.Rest}
 use Rattle.keys.specs.Keys.{slot_at, stands}
 use Rattle.whole.specs.Whole.{whole}
 use Rattle.entry.specs.Opening.{Opens}
+
+pub not-opened : (o : Result Rest Refusal) → ((rest : Rest) → o ≡ Ok rest → ⊥) → is_ok o ≡ false
+not-opened (Ok rest) n = absurd (n rest refl)
+not-opened (Err why) n = refl
 
 module _ {pm : EvcPm} {refp : List EvcRefP} {keys rows : List ℕ} {o : Result Rest Refusal} (p : Opens pm refp keys rows o) where
   pub came-broken : {why : Refusal} → o ≡ Err why → whole pm ≡ false

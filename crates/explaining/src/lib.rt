@@ -16,6 +16,8 @@ pub fn evc_picman_why(pm: &EvcPm, call: RefpCall, slot: u8) -> Result<Reason, Re
 {
     let mut keys = [0; SLOTS];
     let mut rows = [0; ROWS];
-    open_state(*pm, &mut keys, &mut rows)?;
+    let Ok(_) = open_state(*pm, &mut keys, &mut rows) else {
+        return Err(Refusal::StateNotWhole);
+    };
     why_on(&keys, call, slot)
 }

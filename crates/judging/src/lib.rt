@@ -29,6 +29,8 @@ pub fn why_on(keys: &[u64], call: RefpCall, slot: u8) -> Result<Reason, Refusal>
     let mut ordered = ArrayVec::new();
     picman_update_pic_ref(keys, &mut ordered);
     let mut lists = Lists::new();
-    choose(&ordered, &mut lists, call)?;
+    if let Err(why) = choose(&ordered, &mut lists, call) {
+        return Err(why);
+    }
     slot_answer(keys, &ordered, call, slot)
 }

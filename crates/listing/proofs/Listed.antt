@@ -1,7 +1,7 @@
 -- A list call on a state that came and was opened: it stays where it is not whole, and else the core has worked on it.
 -- Assumes nothing.
 use mathlib.Core.Path.{◌≡◌, refl, sym, ap, ap₂, ◌∙◌}
-use mathlib.Core.Bool.{true}
+use mathlib.Core.Bool.{true, false}
 use mathlib.Core.List.{List}
 use Prim.Native.Nat.{ℕ}
 use Rattle.def.specs.declared.{EvcPm.EvcPm, EvcRefP.EvcRefP, RefpCall.RefpCall, Refusal.Refusal}
@@ -14,12 +14,12 @@ use Rattle.std.specs.Prelude.{Result, Ok, Err}
 use Rattle.keys.specs.declared.{Rest.Rest}
 use Rattle.entry.specs.Opening.{Opens}
 use Rattle.listing.specs.Listing.{GivesLists}
-use Rattle.entry.proofs.Opened.{came-whole, came-broken, opened-is}
+use Rattle.entry.proofs.Opened.{came-whole, opened-is, not-opened}
 
 module _ {pm : EvcPm} {refp : List EvcRefP} {keys rows : List ℕ} {o : Result Rest Refusal} (p : Opens pm refp keys rows o) (c : RefpCall) where
-  pub lists-turned-away : {why : Refusal} → o ≡ Err why → GivesLists (lists pm refp c) (Err why) pm refp
+  pub lists-turned-away : ((rest : Rest) → o ≡ Ok rest → ⊥) → GivesLists (lists pm refp c) (Err Refusal.StateNotWhole) pm refp
   unfolding lists
-  lists-turned-away {why} e = rw (came-broken p e, p.turned_down why e) (record { answers = refl; leaves = refl; lists_are = refl })
+  lists-turned-away n = rw (sym p.tells ∙ not-opened o n) (record { answers = refl; leaves = refl; lists_are = refl })
 
   whole-lists : whole pm ≡ true → lists pm refp c ≡ lists_whole pm refp c
   unfolding lists

@@ -23,7 +23,9 @@ pub fn evc_picman_refp_init(
     let mut keys = [0; SLOTS];
     let mut rows = [0; ROWS];
     take_lists(refp, &mut rows);
-    let mut rest = open_state(*pm, &mut keys, &mut rows)?;
+    let Ok(mut rest) = open_state(*pm, &mut keys, &mut rows) else {
+        return Err(Refusal::StateNotWhole);
+    };
     let given = filling::refp_init(&keys, &mut rows, &mut rest, call);
     *pm = put_together(&keys, &rows, rest);
     *refp = put_lists(&rows);

@@ -1,5 +1,5 @@
 // The running machine in a caller's slices, loaded from an image and saved as one, with any bits in both. A size or a flag byte that does not fit is
-// turned down as a bad line, and so is a state that is not whole, since keys cannot say every such state; then nothing is written.
+// turned down as a bad line, and a state that is not whole as such, since keys cannot say every such state; then nothing is written.
 #![tactic(auto)]
 
 ghost use Rattle.std.specs.Prelude.{◌≡◌, true, length};

@@ -4,7 +4,7 @@ use Prim.Native.Nat.{ℕ}
 use mathlib.Core.List.{List, map}
 use native.Mathlib.Omega.{arith}
 use lib.ListN.{length}
-use Rattle.std.proofs.Common.{rules, Result, Err}
+use Rattle.std.proofs.Common.{Result}
 use Rattle.def.specs.declared.{RefpCall.RefpCall, Refusal.Refusal}
 use Rattle.keys.specs.Keys.{slot_at}
 use Rattle.ordering.specs.Order.{Key}
@@ -30,18 +30,16 @@ returns-then-is_i c rows =
     answers-i (map (slot_at rows) c.args.keys.now) c.args.call c.args.slot c.if-call-gt-MAX_POC.false (sym c.is_i.ensures ∙ c.if-is_i.true)
     (c.no_list.ensures rows)
 
-pub returns-in_err-choose : goal.returns-in_err-choose
-returns-in_err-choose c rows =
-    let is : c.from_residual.result ≡ Err c.in_err-choose.field-0.0 = search rules in
-    rw is
-    (answers-choice (map (slot_at rows) c.args.keys.now) c.args.call c.args.slot c.if-call-gt-MAX_POC.false (sym c.is_i.ensures ∙ c.if-is_i.false)
-    (by-choice c.args.call _ _ _ c.deref.ensures.0 (c.picman_update_pic_ref.ensures rows) c.in_err-choose.ensures _))
+pub returns-in-Err : goal.returns-in-Err
+returns-in-Err c rows =
+    answers-choice (map (slot_at rows) c.args.keys.now) c.args.call c.args.slot c.if-call-gt-MAX_POC.false (sym c.is_i.ensures ∙ c.if-is_i.false)
+    (by-choice c.args.call _ _ _ c.deref.ensures.0 (c.picman_update_pic_ref.ensures rows) c.in-Err.ensures _)
 
 pub slot_answer-requires : goal.slot_answer-requires
 slot_answer-requires c = record {
   slots_long = c.requires;
   few =
-      (let few = chosen-few c.args.call c.deref.result.now c.in_ok-choose.ensures in
+      (let few = chosen-few c.args.call c.deref.result.now c.in_default.ensures in
       let first = ap length c.deref.ensures.0 in
       let second = ap length c.deref-2.ensures.0 in
       omega arith);
@@ -52,4 +50,4 @@ pub returns : goal.returns
 returns c rows =
     answers-choice (map (slot_at rows) c.args.keys.now) c.args.call c.args.slot c.if-call-gt-MAX_POC.false (sym c.is_i.ensures ∙ c.if-is_i.false)
     (c.slot_answer.ensures rows
-    ∙ by-choice c.args.call _ _ _ c.deref.ensures.0 (c.picman_update_pic_ref.ensures rows) c.in_ok-choose.ensures _)
+    ∙ by-choice c.args.call _ _ _ c.deref.ensures.0 (c.picman_update_pic_ref.ensures rows) c.in_default.ensures _)
