@@ -1,8 +1,8 @@
 #!/usr/bin/env python3
 """Whether what the documents name is there: run it from anywhere, no argument; it says what is not, and ends with 1, or ends with 0.
 
-It reads what stands between backquotes in README.md, docs/, docs/landings/ and oracle/README.md, but for blocks of code and for docs/PORT.md and
-docs/DESIGN-PASS.md, which hold names of before:
+It reads what stands between backquotes in README.md, docs/, docs/landings/ and oracle/README.md, but for blocks of code and for docs/PORT.md,
+docs/DESIGN-PASS.md and docs/LOOK-BACK.md, which hold names of before:
 
 - a path or a file's name: a file of this repository, at the top or below crates/, a crate, docs/, oracle/ or rust/, but for what is built;
 - `crate: edit`: that must-fail edit; `crate::function`: a function, module or type of that crate;
@@ -97,7 +97,7 @@ def is_there(word, names, crates, is_note):
 def main():
     names, crates = names_and_crates()
     wrong, count = [], 0
-    pages = [page for page in files("docs/*.md") if not page.endswith(("/PORT.md", "/DESIGN-PASS.md"))]
+    pages = [page for page in files("docs/*.md") if not page.endswith(("/PORT.md", "/DESIGN-PASS.md", "/LOOK-BACK.md"))]
     for document in ["README.md", "oracle/README.md"] + pages + files("docs/landings/*.md"):
         prose = re.sub(r"(?ms)^```.*?^```$", "", text(document))
         words = re.findall(r"`([^`\n]+)`", prose)
